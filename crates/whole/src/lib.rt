@@ -1,0 +1,1 @@
+// Signed whole numbers and sums over a count: definitions and laws, no code.
