@@ -1,0 +1,2 @@
+-- What is meant: numbers in a list of bytes, lowest byte first.
+pub mod Bytes
