@@ -110,3 +110,10 @@ every-first (suc n) t = rw (every-first n t) (by (firstBad n t) (t n))
     by (At k) b = refl
     by Nothing true = refl
     by Nothing false = refl
+
+-- the answers of a loop that looks whether every row passes
+pub stop-every : {t : ℕ → Bool} {i n : ℕ} → Passed t i → t i ≡ false → i < n → false ≡ every n t
+stop-every {t} {i} {n} p e l = rw (every-first n t, ← stop p e l)
+
+pub done-every : {t : ℕ → Bool} {i n : ℕ} → Passed t i → i ≤ n → n ≤ i → true ≡ every n t
+done-every {t} {i} {n} p l m = rw (every-first n t, ← done p l m)

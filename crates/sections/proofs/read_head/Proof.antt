@@ -1,0 +1,52 @@
+-- `sections::read_head` meets its contract: each answer, by the tests that led to it. Assumes nothing.
+use mathlib.Core.Path.{_≡_}
+use Prim.Native.Nat.{_≤_, _*_, _+_}
+use native.Mathlib.Omega.{arith}
+use native.Mathlib.Nat.{mul-le-mul}
+use lib.ListN.{length}
+use denote.Ref.{now}
+use borrow.Author.Tests.{le-leb, lt-leb}
+use borrow.Author.Needs.{needs}
+use Rattle.sections.proofs.read_head.Statement.{statement}
+use Rattle.sections.proofs.read_head.Tie as tie
+
+returns : tie.Need-returns
+returns c = simp (lt-leb _ _ (c .if1 .taken))
+
+u16-at-requires : tie.Need-u16-at-requires
+u16-at-requires c κs = search needs
+
+returns-2 : tie.Need-returns-2
+returns-2 c =
+    let e = c .before in
+    simp (le-leb _ _ (e .before .if1 .left), ← e .u16-at .ensures .0, lt-leb _ _ (c .if2 .taken))
+
+returns-3 : tie.Need-returns-3
+returns-3 c =
+    let e = c .before .before in
+    simp (le-leb _ _ (e .before .if1 .left), ← e .u16-at .ensures .0, le-leb _ _ (c .before .if2 .left), lt-leb _ _ (c .if3 .taken))
+
+sub-if4 : tie.Need-sub-if4
+sub-if4 c = search needs
+
+mul-if4 : tie.Need-mul-if4
+mul-if4 c =
+    let n = c .before .before .u16-at .result in
+    let size = c .before .before .before .before .before .args .size in
+    let h : size * n ≤ 65536 * 65536 = mul-le-mul {n₂ = 65536} {m₂ = 65536} (omega arith) (omega arith) in
+    omega arith
+
+returns-4 : tie.Need-returns-4
+returns-4 c =
+    let e = c .before .before .before in
+    simp (le-leb _ _ (e .before .if1 .left), ← e .u16-at .ensures .0, le-leb _ _ (c .before .before .if2 .left), le-leb _ _ (c .before .if3 .left), lt-leb (2 + e .before .before .before .args .size * e .u16-at .result) (length (now (e .before .before .before .args .part))) (omega arith))
+
+returns-5 : tie.Need-returns-5
+returns-5 c =
+    let e = c .before .before .before in
+    simp (le-leb _ _ (e .before .if1 .left), ← e .u16-at .ensures .0, le-leb _ _ (c .before .before .if2 .left), le-leb _ _ (c .before .if3 .left), le-leb (2 + e .before .before .before .args .size * e .u16-at .result) (length (now (e .before .before .before .args .part))) (omega arith))
+
+pub read-head-spec : {M : Type 1} → statement M
+read-head-spec =
+    tie.close
+    (tie.spec returns u16-at-requires returns-2 returns-3 sub-if4 mul-if4 returns-4 returns-5)

@@ -1,0 +1,161 @@
+-- What the reader of a section answers, and that its answer is the first fault of the section's stages. Assumes nothing.
+use Prim.Native.Nat.{ℕ, zero, suc, _+_, _*_, _<_, _≤_}
+use native.Mathlib.Omega.{arith}
+use mathlib.Core.Path.{_≡_, refl, sym, _∙_, ap}
+use mathlib.Core.Bool.{Bool, true, false, _&&_}
+use mathlib.Core.List.{List, [], _∷_, _++_}
+use lib.Dec.{leb}
+use lib.ListN.{length}
+use borrow.Author.Tests.{leb-true}
+use Rattle.stages.specs.First.{every, firstBad, both}
+use Rattle.stages.specs.Stage.{Stage, once, line, place, faultAt, firstFault, orFault, fault-++}
+use Rattle.stages.specs.Table.{inRow}
+use Rattle.stages.specs.declared.Found.{Found}
+use Rattle.stages.specs.declared.Found.the-variants.{At, Nothing}
+use Rattle.stages.specs.declared.Fault.{Fault}
+use Rattle.stages.specs.declared.Fault.the-variants.{Broken, Clean}
+use Rattle.sections.specs.Section.{Numbers, between, count, section, after, allFrom, all, fields}
+use Rattle.sections.specs.declared.Section.{Section}
+use Rattle.sections.specs.declared.Section.the-variants.{Rows, CutOff, Beyond, BadRow}
+
+-- ---- the number, the section and the row of each answer
+
+abbrev pub faultOf : Numbers → ℕ → Section → Fault
+faultOf numbers number (Rows n) = Clean
+faultOf numbers number CutOff = Broken (numbers .cut) (place number 0)
+faultOf numbers number Beyond = Broken (numbers .beyond) (place number 0)
+faultOf numbers number (BadRow i) = Broken (numbers .bad) (place number i)
+
+-- ---- the answers
+
+abbrev pub pick : Bool → Section → Section → Section
+pick true a b = a
+pick false a b = b
+
+-- the count, its limit and room for all rows
+abbrev pub headOf : ℕ → ℕ → ℕ → List ℕ → Section
+headOf least most size part =
+    pick (leb 2 (length part))
+    (pick (between least most (count part)) (pick (leb (2 + size * count part) (length part)) (Rows (count part)) CutOff) Beyond)
+    CutOff
+
+-- the rows, by the first that is bad
+abbrev pub rowsBy : ℕ → Found → Section
+rowsBy n (At i) = BadRow i
+rowsBy n Nothing = Rows n
+
+abbrev pub withRows : (ℕ → Bool) → Section → Section
+withRows ok (Rows n) = rowsBy n (firstBad n ok)
+withRows ok CutOff = CutOff
+withRows ok Beyond = Beyond
+withRows ok (BadRow i) = BadRow i
+
+unfoldable pub sectionOf : ℕ → ℕ → ℕ → (ℕ → Bool) → List ℕ → Section
+sectionOf least most size ok part = withRows ok (headOf least most size part)
+
+-- ---- an answer is the first fault of the stages
+
+module _ (numbers : Numbers) (number n : ℕ) (ok : ℕ → Bool) where
+  abbrev stages-of : Bool → Bool → Bool → List Stage
+  stages-of a b c =
+      once (numbers .cut) (place number 0) a
+      ∷ once (numbers .beyond) (place number 0) b
+      ∷ once (numbers .cut) (place number 0) c
+      ∷ line (numbers .bad) n ok (λ i. place number i)
+      ∷ []
+
+  rows-fault : (f : Found) → faultAt (line (numbers .bad) n ok (λ i. place number i)) (inRow 0 f) Clean ≡ faultOf numbers number (rowsBy n f)
+  rows-fault (At i) = refl
+  rows-fault Nothing = refl
+
+  by-tests : (a b c : Bool) → firstFault (stages-of a b c) ≡ faultOf numbers number (withRows ok (pick a (pick b (pick c (Rows n) CutOff) Beyond) CutOff))
+  by-tests false b c = refl
+  by-tests true false c = refl
+  by-tests true true false = refl
+  by-tests true true true = rows-fault (firstBad n ok)
+
+module _ (numbers : Numbers) (number least most size : ℕ) (ok : ℕ → Bool) (part : List ℕ) where
+  pub section-fault : firstFault (section numbers number least most size ok part) ≡ faultOf numbers number (sectionOf least most size ok part)
+  unfolding sectionOf
+  section-fault =
+      by-tests numbers number (count part) ok (leb 2 (length part)) (between least most (count part)) (leb (2 + size * count part) (length part))
+
+  -- a section and what comes after it
+  pub section-then : (rest : List Stage) →
+      firstFault (section numbers number least most size ok part ++ rest)
+      ≡ orFault (faultOf numbers number (sectionOf least most size ok part)) (firstFault rest)
+  section-then rest = fault-++ (section numbers number least most size ok part) rest ∙ rw section-fault
+
+-- ---- what an answer with n rows tells: n is the count, within its limits, and there is room for all rows
+
+pub record Read (least most size : ℕ) (part : List ℕ) (n : ℕ) : Type 0 where
+  pub counted : count part ≡ n
+  pub least-is : least ≤ n
+  pub most-is : n ≤ most
+  pub room : 2 + size * n ≤ length part
+
+cut-read : {A : Type 0} {n : ℕ} → CutOff ≡ Rows n → A
+cut-read e = let z : _≡_ {A = ℕ} 0 1 = cc in absurd (omega arith)
+
+beyond-read : {A : Type 0} {n : ℕ} → Beyond ≡ Rows n → A
+beyond-read e = let z : _≡_ {A = ℕ} 0 1 = cc in absurd (omega arith)
+
+pub head-read : (least most size : ℕ) (part : List ℕ) (n : ℕ) → headOf least most size part ≡ Rows n → Read least most size part n
+head-read least most size part n e = by (leb 2 (length part)) (between least most (count part)) (leb (2 + size * count part) (length part)) refl refl e
+  where
+    by : (a b c : Bool) → between least most (count part) ≡ b → leb (2 + size * count part) (length part) ≡ c →
+        pick a (pick b (pick c (Rows (count part)) CutOff) Beyond) CutOff ≡ Rows n → Read least most size part n
+    by true true true p q r =
+        let m : count part ≡ n = cc in
+        let l = both (leb least (count part)) (leb (count part) most) .0 p in
+        record {
+          counted = m;
+          least-is = rw m at (leb-true least (count part) (l .0));
+          most-is = rw m at (leb-true (count part) most (l .1));
+          room = rw m at (leb-true (2 + size * count part) (length part) q);
+        }
+    by true true false p q r = cut-read r
+    by true false c p q r = beyond-read r
+    by false b c p q r = cut-read r
+
+-- and each of the rows obeys its rule
+found-none : (n m : ℕ) (f : Found) → rowsBy n f ≡ Rows m → (f ≡ Nothing) × (n ≡ m)
+found-none n m (At i) e = let z : _≡_ {A = ℕ} 0 1 = cc in absurd (omega arith)
+found-none n m Nothing e = (refl, cc)
+
+head-of : (ok : ℕ → Bool) (x : Section) (n : ℕ) → withRows ok x ≡ Rows n → (x ≡ Rows n) × (firstBad n ok ≡ Nothing)
+head-of ok (Rows m) n e = let f = found-none m n (firstBad m ok) e in (ap Rows (f .1), rw (← f .1) (f .0))
+head-of ok CutOff n e = cut-read e
+head-of ok Beyond n e = beyond-read e
+head-of ok (BadRow i) n e = let z : _≡_ {A = ℕ} 0 1 = cc in absurd (omega arith)
+
+module _ (least most size : ℕ) (ok : ℕ → Bool) (part : List ℕ) (n : ℕ) (e : sectionOf least most size ok part ≡ Rows n) where
+  pub section-read : Read least most size part n
+  unfolding sectionOf
+  section-read = head-read least most size part n (head-of ok (headOf least most size part) n e .0)
+
+  pub section-rows : firstBad n ok ≡ Nothing
+  unfolding sectionOf
+  section-rows = head-of ok (headOf least most size part) n e .1
+
+-- ---- the tests of a row's fields, joined
+
+&&-assoc : (a b c : Bool) → ((a && b) && c) ≡ (a && (b && c))
+&&-assoc true b c = refl
+&&-assoc false b c = refl
+
+&&-true : (a : Bool) → (a && true) ≡ a
+&&-true true = refl
+&&-true false = refl
+
+from-++ : (b : Bool) (xs ys : List Bool) → allFrom b (xs ++ ys) ≡ allFrom (allFrom b xs) ys
+from-++ b [] ys = refl
+from-++ b (x ∷ xs) ys = from-++ (b && x) xs ys
+
+from-fields : (b : Bool) (n : ℕ) (t : ℕ → Bool) → allFrom b (fields n t) ≡ (b && every n t)
+from-fields b zero t = sym (&&-true b)
+from-fields b (suc n) t = from-++ b (fields n t) (t n ∷ []) ∙ rw (from-fields b n t, &&-assoc)
+
+-- some fields, and then n fields of one kind
+pub all-fields : (xs : List Bool) (n : ℕ) (t : ℕ → Bool) → all (xs ++ fields n t) ≡ (all xs && every n t)
+all-fields xs n t = from-++ true xs (fields n t) ∙ from-fields (all xs) n t

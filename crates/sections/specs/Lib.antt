@@ -1,0 +1,4 @@
+-- What is meant: a section of a file as a list of stages, and what is left of the file after it.
+pub mod Section
+-- What the reader of a section answers, and that its answer is the first fault of the section's stages.
+pub mod Answer

@@ -1,0 +1,59 @@
+-- A section of a file is a count of two bytes and that many rows, all of one size. Assumes nothing.
+use Prim.Native.Nat.{ℕ, zero, suc, _+_, _*_}
+use mathlib.Core.Bool.{Bool, true, false, _&&_}
+use mathlib.Core.List.{List, [], _∷_, _++_}
+use lib.Dec.{leb}
+use lib.ListN.{length, take, drop}
+use Rattle.wire.specs.Bytes.{u16At}
+use Rattle.stages.specs.Stage.{Stage, once, line, place}
+
+-- the numbers of the three kinds of fault in a file's sections
+pub record Numbers : Type 0 where
+  -- the file ends inside the count or the rows
+  pub cut : ℕ
+  -- the count is not one that is allowed
+  pub beyond : ℕ
+  -- a row breaks its rule
+  pub bad : ℕ
+
+abbrev pub between : ℕ → ℕ → ℕ → Bool
+between least most n = leb least n && leb n most
+
+abbrev pub count : List ℕ → ℕ
+count part = u16At part 0
+
+-- Per section: the count, its limit, room for all rows, then the rows in order. `part` is the file from the section's count on, and `ok i`
+-- says whether the row i obeys its rule.
+abbrev pub section : Numbers → ℕ → ℕ → ℕ → ℕ → (ℕ → Bool) → List ℕ → List Stage
+section numbers number least most size ok part =
+    once (numbers .cut) (place number 0) (leb 2 (length part))
+    ∷ once (numbers .beyond) (place number 0) (between least most (count part))
+    ∷ once (numbers .cut) (place number 0) (leb (2 + size * count part) (length part))
+    ∷ line (numbers .bad) (count part) ok (λ i. place number i)
+    ∷ []
+
+-- Each section starts where the one before it ended.
+abbrev pub after : ℕ → List ℕ → List ℕ
+after size part = drop (2 + size * count part) part
+
+-- a section's rows, without the count
+abbrev pub rows : ℕ → List ℕ → List ℕ
+rows size part = take (size * count part) (drop 2 part)
+
+-- Bytes after the last section.
+abbrev pub ended : ℕ → List ℕ → List Stage
+ended number part = once number (place 0 0) (leb (length part) 0) ∷ []
+
+-- ---- a row's rule: the tests of its fields, in row order
+
+abbrev pub allFrom : Bool → List Bool → Bool
+allFrom b [] = b
+allFrom b (c ∷ cs) = allFrom (b && c) cs
+
+abbrev pub all : List Bool → Bool
+all = allFrom true
+
+-- the tests of n fields of one kind
+abbrev pub fields : ℕ → (ℕ → Bool) → List Bool
+fields zero t = []
+fields (suc n) t = fields n t ++ (t n ∷ [])

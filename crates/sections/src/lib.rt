@@ -1,0 +1,56 @@
+// A section of a file: its head, and what is left of the file after it.
+ghost use mathlib.Core.Path.{_≡_};
+ghost use Prim.Native.Nat.{_+_, _*_, _≤_, _<_};
+ghost use lib.ListN.{length, take, drop};
+ghost use Rattle.sections.specs.Answer.{headOf};
+
+// What the reader of a section answers.
+pub enum Section {
+    // It reads without fault, and has so many rows.
+    Rows(usize),
+    // The file ends inside its count or its rows.
+    CutOff,
+    // Its count is beyond its limits.
+    Beyond,
+    // The first row that breaks its rule.
+    BadRow(usize),
+}
+
+// The count, its limit, and room for all rows.
+pub fn read_head(part: &[u8], least: usize, most: usize, size: usize) -> Section
+    requires { ⌜ size < 65536 ⌝ }
+    ensures { λ r. ⌜ r ≡ headOf least most size (now (part .entry)) ⌝ }
+{
+    if part.len() < 2 {
+        return Section::CutOff;
+    }
+    let n = wire::u16_at(part, 0);
+    if n < least {
+        return Section::Beyond;
+    }
+    if most < n {
+        return Section::Beyond;
+    }
+    if part.len() - 2 < size * n {
+        return Section::CutOff;
+    }
+    Section::Rows(n)
+}
+
+// What is left of a file after a section of n rows.
+pub fn after<'a>(part: &'a [u8], n: usize, size: usize) -> &'a [u8]
+    requires { ⌜ 2 + size * n ≤ length (now part) ⌝ }
+    ensures { λ r. ⌜ now r ≡ drop (2 + size * n) (now (part .entry)) ⌝ }
+{
+    let at = 2 + size * n;
+    &part[at..]
+}
+
+// The n rows of a section, without its count.
+pub fn rows<'a>(part: &'a [u8], n: usize, size: usize) -> &'a [u8]
+    requires { ⌜ 2 + size * n ≤ length (now part) ⌝ }
+    ensures { λ r. ⌜ now r ≡ take (size * n) (drop 2 (now (part .entry))) ⌝ }
+{
+    let end = 2 + size * n;
+    &part[2..end]
+}
