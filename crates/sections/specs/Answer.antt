@@ -159,3 +159,7 @@ from-fields b (suc n) t = from-++ b (fields n t) (t n ∷ []) ∙ rw (from-field
 -- some fields, and then n fields of one kind
 pub all-fields : (xs : List Bool) (n : ℕ) (t : ℕ → Bool) → all (xs ++ fields n t) ≡ (all xs && every n t)
 all-fields xs n t = from-++ true xs (fields n t) ∙ from-fields (all xs) n t
+
+-- some fields, and then one more
+pub all-one : (xs : List Bool) (b : Bool) → all (xs ++ (b ∷ [])) ≡ (all xs && b)
+all-one xs b = from-++ true xs (b ∷ [])

@@ -1,0 +1,160 @@
+-- The rows of the day file's five sections: how long they are, where their fields stand, and their rules, field by field in row order.
+-- `part` is the file from the section's count on, and `at` the place in it at which the row starts. Assumes nothing.
+use Prim.Native.Nat.{ℕ, _+_, _*_, _-_}
+use mathlib.Core.Bool.{Bool, true, false, _&&_, not}
+use mathlib.Core.List.{List, [], _∷_, _++_}
+use lib.Dec.{leb, ltb, eqb}
+use lib.IntN.{ℤ}
+use lib.Signed.{leZ}
+use Rattle.wire.specs.Bytes.{u8At, u16At, u32At, i32At}
+use Rattle.stages.specs.First.{every}
+use Rattle.sections.specs.Section.{all, fields}
+use Rattle.rows.specs.Limits.{isPrice, isVolume, isQuantity}
+use Rattle.rows.specs.declared.Kind.{Kind}
+use Rattle.rows.specs.declared.Kind.the-variants.{Periods, Zones, Lines, Steps, Blocks}
+
+-- the bytes of a row, where the day has so many periods
+abbrev pub rowSize : Kind → ℕ → ℕ
+rowSize Periods periods = 8
+rowSize Zones periods = 2
+rowSize Lines periods = 2 + 8 * periods
+rowSize Steps periods = 12
+rowSize Blocks periods = 8 + 4 * periods
+
+-- where the row i starts: behind the count and the rows before it
+abbrev pub rowStart : Kind → ℕ → ℕ → ℕ
+rowStart kind periods i = 2 + rowSize kind periods * i
+
+-- ---- 1. Periods: floor i32, ceiling i32; floor not above ceiling.
+
+abbrev pub floor : List ℕ → ℕ → ℤ
+floor part at = i32At part at
+
+abbrev pub ceiling : List ℕ → ℕ → ℤ
+ceiling part at = i32At part (at + 4)
+
+abbrev pub periodRule : ℤ → ℤ → List Bool
+periodRule floor ceiling = isPrice floor ∷ (isPrice ceiling && leZ floor ceiling) ∷ []
+
+abbrev pub periodFields : List ℕ → ℕ → List Bool
+periodFields part at = periodRule (floor part at) (ceiling part at)
+
+-- ---- 2. Zones: code u16, at least 1, strictly ascending.
+
+abbrev pub code : List ℕ → ℕ → ℕ
+code part at = u16At part at
+
+-- the code of the row before; before the first stands 0
+abbrev pub pickN : Bool → ℕ → ℕ → ℕ
+pickN true a b = a
+pickN false a b = b
+
+abbrev pub codeBefore : List ℕ → ℕ → ℕ → ℕ
+codeBefore part i at = pickN (eqb i 0) 0 (u16At part (at - 2))
+
+abbrev pub zoneRule : ℕ → ℕ → List Bool
+zoneRule before code = (leb 1 code && ltb before code) ∷ []
+
+abbrev pub zoneFields : List ℕ → ℕ → ℕ → List Bool
+zoneFields part i at = zoneRule (codeBefore part i at) (code part at)
+
+-- ---- 3. Lines: from u8, to u8 (zone numbers, different), then for each period forward capacity u32, back capacity u32.
+
+abbrev pub from : List ℕ → ℕ → ℕ
+from part at = u8At part at
+
+abbrev pub to : List ℕ → ℕ → ℕ
+to part at = u8At part (at + 1)
+
+abbrev pub forward : List ℕ → ℕ → ℕ → ℕ
+forward part at period = u32At part (at + 2 + 8 * period)
+
+abbrev pub back : List ℕ → ℕ → ℕ → ℕ
+back part at period = u32At part (at + 6 + 8 * period)
+
+-- the capacities one after the other: forward and back of period 0, of period 1, and so on
+abbrev pub capacity : List ℕ → ℕ → ℕ → ℕ
+capacity part at k = u32At part (at + 2 + 4 * k)
+
+abbrev pub endsRule : ℕ → ℕ → ℕ → List Bool
+endsRule zones from to = ltb from zones ∷ (ltb to zones && not (eqb to from)) ∷ []
+
+abbrev pub lineFields : ℕ → ℕ → List ℕ → ℕ → List Bool
+lineFields periods zones part at =
+    endsRule zones (from part at) (to part at) ++ fields (2 * periods) (λ k. isVolume (capacity part at k))
+
+-- ---- 4. Steps: zone u8, period u8, side u8 (0 sell, 1 buy), a spare byte that is 0, price i32, quantity u32.
+
+abbrev pub stepZone : List ℕ → ℕ → ℕ
+stepZone part at = u8At part at
+
+abbrev pub stepPeriod : List ℕ → ℕ → ℕ
+stepPeriod part at = u8At part (at + 1)
+
+abbrev pub stepSide : List ℕ → ℕ → ℕ
+stepSide part at = u8At part (at + 2)
+
+abbrev pub stepSpare : List ℕ → ℕ → ℕ
+stepSpare part at = u8At part (at + 3)
+
+abbrev pub stepPrice : List ℕ → ℕ → ℤ
+stepPrice part at = i32At part (at + 4)
+
+abbrev pub stepQuantity : List ℕ → ℕ → ℕ
+stepQuantity part at = u32At part (at + 8)
+
+abbrev pub stepRule : ℕ → ℕ → ℕ → ℕ → ℕ → ℕ → ℤ → ℕ → List Bool
+stepRule zones periods zone period side spare price quantity =
+    ltb zone zones
+    ∷ ltb period periods
+    ∷ leb side 1
+    ∷ eqb spare 0
+    ∷ isPrice price
+    ∷ isQuantity quantity
+    ∷ []
+
+abbrev pub stepFields : ℕ → ℕ → List ℕ → ℕ → List Bool
+stepFields periods zones part at =
+    stepRule zones periods (stepZone part at) (stepPeriod part at) (stepSide part at) (stepSpare part at) (stepPrice part at) (stepQuantity part at)
+
+-- ---- 5. Blocks: zone u8, side u8, a spare u16 that is 0, price i32, then a quantity u32 for each period; at least one quantity above 0.
+
+abbrev pub blockZone : List ℕ → ℕ → ℕ
+blockZone part at = u8At part at
+
+abbrev pub blockSide : List ℕ → ℕ → ℕ
+blockSide part at = u8At part (at + 1)
+
+abbrev pub blockSpare : List ℕ → ℕ → ℕ
+blockSpare part at = u16At part (at + 2)
+
+abbrev pub blockPrice : List ℕ → ℕ → ℤ
+blockPrice part at = i32At part (at + 4)
+
+abbrev pub blockQuantity : List ℕ → ℕ → ℕ → ℕ
+blockQuantity part at period = u32At part (at + 8 + 4 * period)
+
+abbrev pub blockRule : ℕ → ℕ → ℕ → ℕ → ℤ → List Bool
+blockRule zones zone side spare price = ltb zone zones ∷ leb side 1 ∷ eqb spare 0 ∷ isPrice price ∷ []
+
+-- no quantity is above 0
+abbrev pub empty : ℕ → List ℕ → ℕ → Bool
+empty periods part at = every periods (λ period. leb (blockQuantity part at period) 0)
+
+abbrev pub blockFields : ℕ → ℕ → List ℕ → ℕ → List Bool
+blockFields periods zones part at =
+    (blockRule zones (blockZone part at) (blockSide part at) (blockSpare part at) (blockPrice part at)
+    ++ fields periods (λ period. isVolume (blockQuantity part at period)))
+    ++ (not (empty periods part at) ∷ [])
+
+-- ---- a row's rule: each of its fields passes its test
+
+abbrev pub rowFields : Kind → ℕ → ℕ → List ℕ → ℕ → ℕ → List Bool
+rowFields Periods periods zones part i at = periodFields part at
+rowFields Zones periods zones part i at = zoneFields part i at
+rowFields Lines periods zones part i at = lineFields periods zones part at
+rowFields Steps periods zones part i at = stepFields periods zones part at
+rowFields Blocks periods zones part i at = blockFields periods zones part at
+
+unfoldable pub rowOk : Kind → ℕ → ℕ → List ℕ → ℕ → Bool
+rowOk kind periods zones part i = all (rowFields kind periods zones part i (rowStart kind periods i))

@@ -1,0 +1,196 @@
+// The rows of the day file's five sections: how long they are, and whether a row obeys its rule.
+ghost use mathlib.Core.Path.{_≡_};
+ghost use Prim.Native.Nat.{_+_, _*_, _≤_, _<_};
+ghost use lib.Dec.{leb};
+ghost use lib.ListN.{length};
+ghost use Rattle.wire.specs.Bytes.{u32At};
+ghost use Rattle.stages.specs.First.{every};
+ghost use Rattle.sections.specs.Section.{all};
+ghost use Rattle.rows.specs.Limits.{least, most};
+ghost use Rattle.rows.specs.Rows.{rowSize, rowStart, codeBefore, periodRule, zoneRule, endsRule, stepRule, blockRule, periodFields, zoneFields, lineFields, stepFields, blockFields, rowOk};
+
+// The sections of a day file.
+pub enum Kind {
+    Periods,
+    Zones,
+    Lines,
+    Steps,
+    Blocks,
+}
+
+const PRICE_LEAST: i64 = -1000000;
+const PRICE_MOST: i64 = 1000000;
+const VOLUME_MOST: u32 = 1000000;
+
+pub fn least(kind: Kind) -> usize
+    ensures { λ r. ⌜ r ≡ least kind ⌝ }
+{
+    match kind {
+        Kind::Periods => 1,
+        Kind::Zones => 1,
+        Kind::Lines => 0,
+        Kind::Steps => 0,
+        Kind::Blocks => 0,
+    }
+}
+
+pub fn most(kind: Kind) -> usize
+    ensures { λ r. ⌜ r ≡ most kind ⌝ }
+{
+    match kind {
+        Kind::Periods => 25,
+        Kind::Zones => 8,
+        Kind::Lines => 16,
+        Kind::Steps => 2000,
+        Kind::Blocks => 100,
+    }
+}
+
+pub fn row_size(kind: Kind, periods: usize) -> usize
+    requires { ⌜ periods ≤ 25 ⌝ }
+    ensures { λ r. ⌜ (r ≡ rowSize kind periods) × (r < 256) ⌝ }
+{
+    match kind {
+        Kind::Periods => 8,
+        Kind::Zones => 2,
+        Kind::Lines => 2 + 8 * periods,
+        Kind::Steps => 12,
+        Kind::Blocks => 8 + 4 * periods,
+    }
+}
+
+// ---- rules over a row's fields
+
+fn period_rule(floor: i64, ceiling: i64) -> bool
+    ensures { λ r. ⌜ r ≡ all (periodRule floor ceiling) ⌝ }
+{
+    ((PRICE_LEAST <= floor) & (floor <= PRICE_MOST))
+        & (((PRICE_LEAST <= ceiling) & (ceiling <= PRICE_MOST)) & (floor <= ceiling))
+}
+
+fn zone_rule(before: usize, code: usize) -> bool
+    ensures { λ r. ⌜ r ≡ all (zoneRule before code) ⌝ }
+{
+    (1 <= code) & (before < code)
+}
+
+fn ends_rule(zones: usize, from: usize, to: usize) -> bool
+    ensures { λ r. ⌜ r ≡ all (endsRule zones from to) ⌝ }
+{
+    (from < zones) & ((to < zones) & (to != from))
+}
+
+fn step_rule(
+    zones: usize,
+    periods: usize,
+    zone: usize,
+    period: usize,
+    side: usize,
+    spare: usize,
+    price: i64,
+    quantity: u32,
+) -> bool
+    ensures { λ r. ⌜ r ≡ all (stepRule zones periods zone period side spare price quantity) ⌝ }
+{
+    (zone < zones)
+        & (period < periods)
+        & (side <= 1)
+        & (spare == 0)
+        & ((PRICE_LEAST <= price) & (price <= PRICE_MOST))
+        & ((1 <= quantity) & (quantity <= VOLUME_MOST))
+}
+
+fn block_rule(zones: usize, zone: usize, side: usize, spare: usize, price: i64) -> bool
+    ensures { λ r. ⌜ r ≡ all (blockRule zones zone side spare price) ⌝ }
+{
+    (zone < zones) & (side <= 1) & (spare == 0) & ((PRICE_LEAST <= price) & (price <= PRICE_MOST))
+}
+
+// ---- rules over a row's bytes: `at` is the place at which the row starts
+
+fn period_ok(part: &[u8], at: usize) -> bool
+    requires { ⌜ at + 8 ≤ length (now part) ⌝ }
+    ensures { λ r. ⌜ r ≡ all (periodFields (now (part .entry)) at) ⌝ }
+{
+    period_rule(wire::i32_at(part, at), wire::i32_at(part, at + 4))
+}
+
+fn code_before(part: &[u8], i: usize, at: usize) -> usize
+    requires { ⌜ (2 ≤ at) × (at ≤ length (now part)) ⌝ }
+    ensures { λ r. ⌜ r ≡ codeBefore (now (part .entry)) i at ⌝ }
+{
+    if i == 0 { 0 } else { wire::u16_at(part, at - 2) }
+}
+
+fn zone_ok(part: &[u8], i: usize, at: usize) -> bool
+    requires { ⌜ (2 ≤ at) × (at + 2 ≤ length (now part)) ⌝ }
+    ensures { λ r. ⌜ r ≡ all (zoneFields (now (part .entry)) i at) ⌝ }
+{
+    zone_rule(code_before(part, i, at), wire::u16_at(part, at))
+}
+
+fn step_ok(part: &[u8], periods: usize, zones: usize, at: usize) -> bool
+    requires { ⌜ at + 12 ≤ length (now part) ⌝ }
+    ensures { λ r. ⌜ r ≡ all (stepFields periods zones (now (part .entry)) at) ⌝ }
+{
+    step_rule(
+        zones,
+        periods,
+        wire::u8_at(part, at),
+        wire::u8_at(part, at + 1),
+        wire::u8_at(part, at + 2),
+        wire::u8_at(part, at + 3),
+        wire::i32_at(part, at + 4),
+        wire::u32_at(part, at + 8),
+    )
+}
+
+// Whether each of n volumes, one after the other from `at` on, is at most `most`.
+fn volumes_within(part: &[u8], at: usize, n: usize, most: u32) -> bool
+    requires { ⌜ at + 4 * n ≤ length (now part) ⌝ }
+    ensures { λ r. ⌜ r ≡ every n (λ k. leb (u32At (now (part .entry)) (at + 4 * k)) most) ⌝ }
+{
+    for k in 0..n {
+        if most < wire::u32_at(part, at + 4 * k) {
+            return false;
+        }
+    }
+    true
+}
+
+fn line_ok(part: &[u8], periods: usize, zones: usize, at: usize) -> bool
+    requires { ⌜ (periods ≤ 25) × (at + (2 + 8 * periods) ≤ length (now part)) ⌝ }
+    ensures { λ r. ⌜ r ≡ all (lineFields periods zones (now (part .entry)) at) ⌝ }
+{
+    ends_rule(zones, wire::u8_at(part, at), wire::u8_at(part, at + 1))
+        & volumes_within(part, at + 2, 2 * periods, VOLUME_MOST)
+}
+
+fn block_ok(part: &[u8], periods: usize, zones: usize, at: usize) -> bool
+    requires { ⌜ (periods ≤ 25) × (at + (8 + 4 * periods) ≤ length (now part)) ⌝ }
+    ensures { λ r. ⌜ r ≡ all (blockFields periods zones (now (part .entry)) at) ⌝ }
+{
+    block_rule(
+        zones,
+        wire::u8_at(part, at),
+        wire::u8_at(part, at + 1),
+        wire::u16_at(part, at + 2),
+        wire::i32_at(part, at + 4),
+    ) & volumes_within(part, at + 8, periods, VOLUME_MOST)
+        & !volumes_within(part, at + 8, periods, 0)
+}
+
+// Whether the row i of a section obeys its rule.
+pub fn row_ok(kind: Kind, periods: usize, zones: usize, part: &[u8], i: usize) -> bool
+    requires { ⌜ (periods ≤ 25) × (2 + rowSize kind periods * (i + 1) ≤ length (now part)) ⌝ }
+    ensures { λ r. ⌜ r ≡ rowOk kind periods zones (now (part .entry)) i ⌝ }
+{
+    let at = 2 + row_size(kind, periods) * i;
+    match kind {
+        Kind::Periods => period_ok(part, at),
+        Kind::Zones => zone_ok(part, i, at),
+        Kind::Lines => line_ok(part, periods, zones, at),
+        Kind::Steps => step_ok(part, periods, zones, at),
+        Kind::Blocks => block_ok(part, periods, zones, at),
+    }
+}
