@@ -15,6 +15,9 @@ use Rattle.stages.specs.declared.Found.the-variants.{At, Nothing}
 use Rattle.stages.specs.declared.Fault.{Fault}
 use Rattle.stages.specs.declared.Fault.the-variants.{Broken, Clean}
 use Rattle.sections.specs.Section.{Numbers, between, count, section, after, allFrom, all, fields}
+use Rattle.stages.specs.declared.Place.{Place}
+use Rattle.sections.specs.declared.Reading.{Reading}
+use Rattle.sections.specs.declared.Reading.the-variants.{Good, Refused}
 use Rattle.sections.specs.declared.Section.{Section}
 use Rattle.sections.specs.declared.Section.the-variants.{Rows, CutOff, Beyond, BadRow}
 
@@ -25,6 +28,12 @@ faultOf numbers number (Rows n) = Clean
 faultOf numbers number CutOff = Broken (numbers .cut) (place number 0)
 faultOf numbers number Beyond = Broken (numbers .beyond) (place number 0)
 faultOf numbers number (BadRow i) = Broken (numbers .bad) (place number i)
+
+abbrev pub readingOf : Numbers → ℕ → Section → Reading
+readingOf numbers number (Rows n) = Good n
+readingOf numbers number CutOff = Refused (numbers .cut) (place number 0)
+readingOf numbers number Beyond = Refused (numbers .beyond) (place number 0)
+readingOf numbers number (BadRow i) = Refused (numbers .bad) (place number i)
 
 -- ---- the answers
 
@@ -54,6 +63,19 @@ unfoldable pub sectionOf : ℕ → ℕ → ℕ → (ℕ → Bool) → List ℕ �
 sectionOf least most size ok part = withRows ok (headOf least most size part)
 
 -- ---- an answer is the first fault of the stages
+
+module _ (numbers : Numbers) (number : ℕ) where
+  refused-fault : (x : Section) (k : ℕ) (p : Place) (f : Fault) → readingOf numbers number x ≡ Refused k p → orFault (faultOf numbers number x) f ≡ Broken k p
+  refused-fault (Rows n) k p f e = let z : _≡_ {A = ℕ} 0 1 = cc in absurd (omega arith)
+  refused-fault CutOff k p f e = cc
+  refused-fault Beyond k p f e = cc
+  refused-fault (BadRow i) k p f e = cc
+
+  pub reading-rows : (x : Section) (n : ℕ) → readingOf numbers number x ≡ Good n → x ≡ Rows n
+  reading-rows (Rows m) n e = cc
+  reading-rows CutOff n e = let z : _≡_ {A = ℕ} 0 1 = cc in absurd (omega arith)
+  reading-rows Beyond n e = let z : _≡_ {A = ℕ} 0 1 = cc in absurd (omega arith)
+  reading-rows (BadRow i) n e = let z : _≡_ {A = ℕ} 0 1 = cc in absurd (omega arith)
 
 module _ (numbers : Numbers) (number n : ℕ) (ok : ℕ → Bool) where
   abbrev stages-of : Bool → Bool → Bool → List Stage
@@ -85,6 +107,16 @@ module _ (numbers : Numbers) (number least most size : ℕ) (ok : ℕ → Bool) 
       firstFault (section numbers number least most size ok part ++ rest)
       ≡ orFault (faultOf numbers number (sectionOf least most size ok part)) (firstFault rest)
   section-then rest = fault-++ (section numbers number least most size ok part) rest ∙ rw section-fault
+
+  -- refused: that is the first fault, whatever comes after
+  pub then-refused : (rest : List Stage) (k : ℕ) (p : Place) → readingOf numbers number (sectionOf least most size ok part) ≡ Refused k p →
+      firstFault (section numbers number least most size ok part ++ rest) ≡ Broken k p
+  then-refused rest k p e = section-then rest ∙ refused-fault numbers number (sectionOf least most size ok part) k p (firstFault rest) e
+
+  -- good: the first fault is that of what comes after
+  pub then-good : (rest : List Stage) (n : ℕ) → readingOf numbers number (sectionOf least most size ok part) ≡ Good n →
+      firstFault (section numbers number least most size ok part ++ rest) ≡ firstFault rest
+  then-good rest n e = section-then rest ∙ rw (reading-rows numbers number (sectionOf least most size ok part) n e)
 
 -- ---- what an answer with n rows tells: n is the count, within its limits, and there is room for all rows
 

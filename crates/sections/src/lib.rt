@@ -1,8 +1,9 @@
 // A section of a file: its head, and what is left of the file after it.
+use stages::Place;
 ghost use mathlib.Core.Path.{_≡_};
 ghost use Prim.Native.Nat.{_+_, _*_, _≤_, _<_};
 ghost use lib.ListN.{length, take, drop};
-ghost use Rattle.sections.specs.Answer.{headOf};
+ghost use Rattle.sections.specs.Answer.{headOf, readingOf};
 
 // What the reader of a section answers.
 pub enum Section {
@@ -14,6 +15,24 @@ pub enum Section {
     Beyond,
     // The first row that breaks its rule.
     BadRow(usize),
+}
+
+// The same, with the number and the place of the fault, as the section's file gives them.
+pub enum Reading {
+    Good(usize),
+    Refused(u8, Place),
+}
+
+// The answer of a section with this number, in a file whose three kinds of fault have these numbers.
+pub fn named(answer: Section, number: usize, cut: u8, beyond: u8, bad: u8) -> Reading
+    ensures { λ r. ⌜ r ≡ readingOf (record { cut = cut; beyond = beyond; bad = bad }) number answer ⌝ }
+{
+    match answer {
+        Section::Rows(n) => Reading::Good(n),
+        Section::CutOff => Reading::Refused(cut, Place { first: number, second: 0 }),
+        Section::Beyond => Reading::Refused(beyond, Place { first: number, second: 0 }),
+        Section::BadRow(i) => Reading::Refused(bad, Place { first: number, second: i }),
+    }
 }
 
 // The count, its limit, and room for all rows.
