@@ -161,6 +161,14 @@ head-of ok CutOff n e = cut-read e
 head-of ok Beyond n e = beyond-read e
 head-of ok (BadRow i) n e = let z : _≡_ {A = ℕ} 0 1 = cc in absurd (omega arith)
 
+pub head-same : (part : List ℕ) {x : Section} {l m s l′ m′ s′ : ℕ} → l ≡ l′ → m ≡ m′ → s ≡ s′ → x ≡ headOf l m s part → x ≡ headOf l′ m′ s′ part
+head-same part a b c e = e ∙ rw (a, b, c)
+
+-- the answer of a reader that has read the head
+pub head-section : (least most size : ℕ) (ok : ℕ → Bool) (part : List ℕ) {x : Section} → x ≡ headOf least most size part → withRows ok x ≡ sectionOf least most size ok part
+unfolding sectionOf
+head-section least most size ok part e = ap (withRows ok) e
+
 module _ (least most size : ℕ) (ok : ℕ → Bool) (part : List ℕ) (n : ℕ) (e : sectionOf least most size ok part ≡ Rows n) where
   pub section-read : Read least most size part n
   unfolding sectionOf

@@ -24,6 +24,16 @@ signed32 u = cond (ltb u 2147483648) (pos u) (pos u -ℤ pos 4294967296)
 abbrev pub i32At : List ℕ → ℕ → ℤ
 i32At s at = signed32 (u32At s at)
 
+-- the same of eight bytes, which are only written
+abbrev pub u64At : List ℕ → ℕ → ℕ
+u64At s at = u32At s at + u32At s (at + 4) * 4294967296
+
+abbrev pub signed64 : ℕ → ℤ
+signed64 u = cond (ltb u 9223372036854775808) (pos u) (pos u -ℤ pos 18446744073709551616)
+
+abbrev pub i64At : List ℕ → ℕ → ℤ
+i64At s at = signed64 (u64At s at)
+
 -- ---- written
 
 -- two's complement: a number below 0 is written as what is 2 ^ 32, or 2 ^ 64, more

@@ -1,3 +1,4 @@
+-- `wire::i32_at` meets its contract: what `signed` answers fits an i64, so its bits read back as it. Assumes nothing.
 use borrow.Author.Needs.{needs}
 use mir.Syntax.{w64}
 use mir.ValLaws.{toZ-ofZ}

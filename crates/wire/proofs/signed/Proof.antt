@@ -1,12 +1,10 @@
 -- `wire::signed` meets its contract: the bits fit 63 bits, so as an i64 they are their own number. Assumes nothing.
-use mathlib.Core.Path.{_≡_, _∙_}
+use mathlib.Core.Path.{_∙_}
 use native.Mathlib.Omega.{arith}
 use borrow.Author.Needs.{needs}
 use borrow.Author.Tests.{lt-ltb, le-ltb}
-use lib.IntN.{pos, negsuc, _-ℤ_}
 use mir.Syntax.{w64}
-use mir.Val.{toZ}
-use mir.ValLaws.{toZ-pos, toZ-neg, toZ-ofZ}
+use mir.ValLaws.{toZ-pos, toZ-ofZ}
 use Rattle.wire.proofs.signed.Statement.{statement}
 use Rattle.wire.proofs.signed.Tie as tie
 
@@ -22,12 +20,12 @@ sub-result c =
     (record { sfits = omega arith })
 
 returns : tie.Need-returns
-returns c = rw (toZ-pos w64 (c .before .args .u) (omega arith), lt-ltb _ _ (c .if1 .taken))
+returns c = rw (toZ-pos w64 (c .before .args .u) (omega arith), lt-ltb (c .before .args .u) 2147483648 (omega arith))
 
 returns-2 : tie.Need-returns-2
 returns-2 c =
     toZ-ofZ w64 _ (sub-result c)
-    ∙ rw (toZ-pos w64 (c .before .args .u) (omega arith), le-ltb _ _ (c .if1 .left))
+    ∙ rw (toZ-pos w64 (c .before .args .u) (omega arith), le-ltb (c .before .args .u) 2147483648 (omega arith))
 
 pub signed-spec : {M : Type 1} → statement M
 signed-spec = tie.close (tie.spec cast-result cast-result-2 sub-result returns returns-2)

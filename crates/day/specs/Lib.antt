@@ -1,0 +1,4 @@
+-- What is meant: the day file's parts, its counts, and its stages, refusals 1 to 4.
+pub mod Day
+-- The same stages from each section on, as the readers hand on what is left of the file.
+pub mod Chain
