@@ -14,6 +14,9 @@ use Rattle.rows.specs.Limits.{least, most}
 use Rattle.rows.specs.Rows.{rowSize, rowOk}
 use Rattle.rows.specs.declared.Kind.{Kind}
 use Rattle.rows.specs.declared.Kind.the-variants.{Periods, Zones, Lines, Steps, Blocks}
+use Rattle.day.specs.declared.Counts.{Counts}
+use Rattle.day.specs.declared.DayFile.{DayFile}
+use Rattle.day.specs.declared.DayFile.the-variants.{Good as Whole, Bad}
 use Rattle.day.specs.Day.{sectionNumber, dayNumbers, daySection, dayStages}
 
 -- a section's answer, with its number and place
@@ -53,3 +56,43 @@ pub reading-read : (kind : Kind) (periods zones : ℕ) (part : List ℕ) {n : �
 reading-read kind periods zones part {n} e =
     section-read (least kind) (most kind) (rowSize kind periods) (rowOk kind periods zones part) part n
     (reading-rows dayNumbers (sectionNumber kind) (sectionOf (least kind) (most kind) (rowSize kind periods) (rowOk kind periods zones part) part) n e)
+
+-- ---- the answer of a reader that has come so far
+
+abbrev pub countsOf : ℕ → ℕ → ℕ → ℕ → ℕ → Counts
+countsOf periods zones lines steps blocks = record { periods = periods; zones = zones; lines = lines; steps = steps; blocks = blocks }
+
+abbrev pub fileFrom : Counts → List Stage → DayFile
+fileFrom counts stages = answer (Whole counts) Bad (firstFault stages)
+
+-- the counts from each section on
+abbrev pub countsBlocks : ℕ → ℕ → ℕ → ℕ → List ℕ → Counts
+countsBlocks periods zones lines steps part = countsOf periods zones lines steps (count part)
+
+abbrev pub countsSteps : ℕ → ℕ → ℕ → List ℕ → Counts
+countsSteps periods zones lines part = countsBlocks periods zones lines (count part) (after (rowSize Steps periods) part)
+
+abbrev pub countsLines : ℕ → ℕ → List ℕ → Counts
+countsLines periods zones part = countsSteps periods zones (count part) (after (rowSize Lines periods) part)
+
+abbrev pub countsZones : ℕ → List ℕ → Counts
+countsZones periods part = countsLines periods (count part) (after (rowSize Zones periods) part)
+
+-- A section's answer taken apart. `counts` and `rest` are what comes after the section: the counts and the stages, by what is left of
+-- the file and the section's own count.
+module _ (kind : Kind) (periods zones : ℕ) (part : List ℕ) (counts : List ℕ → ℕ → Counts) (rest : List ℕ → ℕ → List Stage) where
+  abbrev whole-file : DayFile
+  whole-file =
+      let left = after (rowSize kind periods) part in
+      fileFrom (counts left (count part)) (daySection kind periods zones part ++ rest left (count part))
+
+  -- a fault returns at once
+  pub fault-returns : {k : ℕ} {p : Place} → readingAt kind periods zones part ≡ Refused k p → Bad k p ≡ whole-file
+  fault-returns e = rw (section-refused kind periods zones part (rest (after (rowSize kind periods) part) (count part)) e)
+
+  -- what is left of the file is handed on
+  pub handed-on : {n : ℕ} {left : List ℕ} {r : DayFile} →
+      readingAt kind periods zones part ≡ Good n → left ≡ after (rowSize kind periods) part → r ≡ fileFrom (counts left n) (rest left n) → r ≡ whole-file
+  handed-on e l q =
+      q ∙ rw (l, ← reading-read kind periods zones part e .counted,
+      section-good kind periods zones part (rest (after (rowSize kind periods) part) (count part)) e)

@@ -5,7 +5,7 @@ use mathlib.Core.Path.{_≡_, refl, sym, _∙_, ap}
 use mathlib.Core.Bool.{Bool, true, false, _&&_}
 use mathlib.Core.List.{List, [], _∷_, _++_}
 use lib.Dec.{leb}
-use lib.ListN.{length}
+use lib.ListN.{length, drop}
 use borrow.Author.Tests.{leb-true}
 use Rattle.stages.specs.First.{every, firstBad, both}
 use Rattle.stages.specs.Stage.{Stage, once, line, place, faultAt, firstFault, orFault, fault-++}
@@ -149,6 +149,9 @@ head-read least most size part n e = by (leb 2 (length part)) (between least mos
     by true true false p q r = cut-read r
     by true false c p q r = beyond-read r
     by false b c p q r = cut-read r
+
+pub after-is : (part : List ℕ) {size size′ n : ℕ} → size ≡ size′ → count part ≡ n → drop (2 + size * n) part ≡ after size′ part
+after-is part e f = rw (e, ← f)
 
 -- and each of the rows obeys its rule
 found-none : (n m : ℕ) (f : Found) → rowsBy n f ≡ Rows m → (f ≡ Nothing) × (n ≡ m)
