@@ -1,8 +1,10 @@
 -- A row of lines or of blocks: its first fields, and then those of the periods. A row's rule by its kind. Assumes nothing.
-use Prim.Native.Nat.{ℕ, _+_, _*_}
+use Prim.Native.Nat.{ℕ, _+_, _*_, _≤_}
+use native.Mathlib.Omega.{arith}
 use mathlib.Core.Path.{_≡_, _∙_, ap}
 use mathlib.Core.Bool.{Bool, _&&_, not}
 use mathlib.Core.List.{List, [], _∷_, _++_}
+use lib.ListN.{length}
 use Rattle.stages.specs.First.{every}
 use Rattle.sections.specs.Section.{all, fields}
 use Rattle.sections.specs.Answer.{all-fields, all-one}
@@ -30,3 +32,8 @@ pub row-is : (periods zones : ℕ) (part : List ℕ) (i : ℕ) {kind k : Kind} {
     all (rowFields k periods zones part i (2 + size * i)) ≡ rowOk kind periods zones part i
 unfolding rowOk
 row-is periods zones part i e f = rw (← e, f)
+
+-- the row i lies within the part
+pub row-room : (periods i : ℕ) (part : List ℕ) {kind k : Kind} {size : ℕ} → kind ≡ k → size ≡ rowSize kind periods →
+    2 + rowSize kind periods * (i + 1) ≤ length part → 2 + size * i + rowSize k periods ≤ length part
+row-room periods i part e f h = rw (← e, f) (omega arith)

@@ -1,4 +1,4 @@
--- The rows of the day file's five sections: how long they are, where their fields stand, and their rules, field by field in row order.
+-- The rows of the sections of both files: how long they are, where their fields stand, and their rules, field by field in row order.
 -- `part` is the file from the section's count on, and `at` the place in it at which the row starts. Assumes nothing.
 use Prim.Native.Nat.{ℕ, _+_, _*_, _-_}
 use mathlib.Core.Bool.{Bool, true, false, _&&_, not}
@@ -9,9 +9,9 @@ use lib.Signed.{leZ}
 use Rattle.wire.specs.Bytes.{u8At, u16At, u32At, i32At}
 use Rattle.stages.specs.First.{every}
 use Rattle.sections.specs.Section.{all, fields}
-use Rattle.rows.specs.Limits.{isPrice, isVolume, isQuantity}
+use Rattle.rows.specs.Limits.{isPrice, isFlow, isVolume, isQuantity}
 use Rattle.rows.specs.declared.Kind.{Kind}
-use Rattle.rows.specs.declared.Kind.the-variants.{Periods, Zones, Lines, Steps, Blocks}
+use Rattle.rows.specs.declared.Kind.the-variants.{Periods, Zones, Lines, Steps, Blocks, Prices, Flows, Volumes, Taken}
 
 -- the bytes of a row, where the day has so many periods
 abbrev pub rowSize : Kind → ℕ → ℕ
@@ -20,10 +20,16 @@ rowSize Zones periods = 2
 rowSize Lines periods = 2 + 8 * periods
 rowSize Steps periods = 12
 rowSize Blocks periods = 8 + 4 * periods
+rowSize Prices periods = 4
+rowSize Flows periods = 4
+rowSize Volumes periods = 4
+rowSize Taken periods = 1
 
 -- where the row i starts: behind the count and the rows before it
 abbrev pub rowStart : Kind → ℕ → ℕ → ℕ
 rowStart kind periods i = 2 + rowSize kind periods * i
+
+-- ==== the day file
 
 -- ---- 1. Periods: floor i32, ceiling i32; floor not above ceiling.
 
@@ -147,7 +153,29 @@ blockFields periods zones part at =
     ++ fields periods (λ period. isVolume (blockQuantity part at period)))
     ++ (not (empty periods part at) ∷ [])
 
--- ---- a row's rule: each of its fields passes its test
+-- ==== the clearing file, whose rows have one field
+
+-- ---- 1. Prices: i32.
+
+abbrev pub priceFields : List ℕ → ℕ → List Bool
+priceFields part at = isPrice (i32At part at) ∷ []
+
+-- ---- 2. Flows: i32 from -1,000,000 to 1,000,000.
+
+abbrev pub flowFields : List ℕ → ℕ → List Bool
+flowFields part at = isFlow (i32At part at) ∷ []
+
+-- ---- 3. Steps: accepted volume u32, at most 1,000,000.
+
+abbrev pub volumeFields : List ℕ → ℕ → List Bool
+volumeFields part at = isVolume (u32At part at) ∷ []
+
+-- ---- 4. Blocks: u8, 0 rejected or 1 accepted.
+
+abbrev pub takenFields : List ℕ → ℕ → List Bool
+takenFields part at = leb (u8At part at) 1 ∷ []
+
+-- ==== a row's rule: each of its fields passes its test
 
 abbrev pub rowFields : Kind → ℕ → ℕ → List ℕ → ℕ → ℕ → List Bool
 rowFields Periods periods zones part i at = periodFields part at
@@ -155,6 +183,10 @@ rowFields Zones periods zones part i at = zoneFields part i at
 rowFields Lines periods zones part i at = lineFields periods zones part at
 rowFields Steps periods zones part i at = stepFields periods zones part at
 rowFields Blocks periods zones part i at = blockFields periods zones part at
+rowFields Prices periods zones part i at = priceFields part at
+rowFields Flows periods zones part i at = flowFields part at
+rowFields Volumes periods zones part i at = volumeFields part at
+rowFields Taken periods zones part i at = takenFields part at
 
 unfoldable pub rowOk : Kind → ℕ → ℕ → List ℕ → ℕ → Bool
 rowOk kind periods zones part i = all (rowFields kind periods zones part i (rowStart kind periods i))

@@ -1,50 +1,33 @@
-// The rows of the day file's five sections: how long they are, and whether a row obeys its rule.
+// The rows of both files' sections: how long they are, and whether a row obeys its rule.
 ghost use mathlib.Core.Path.{_≡_};
+ghost use mathlib.Core.Bool.{_&&_};
 ghost use Prim.Native.Nat.{_+_, _*_, _≤_, _<_};
 ghost use lib.Dec.{leb};
 ghost use lib.ListN.{length};
-ghost use Rattle.wire.specs.Bytes.{u32At};
+ghost use lib.Signed.{leZ};
+ghost use Rattle.wire.specs.Bytes.{u32At, i32At};
 ghost use Rattle.stages.specs.First.{every};
 ghost use Rattle.sections.specs.Section.{all};
-ghost use Rattle.rows.specs.Limits.{least, most};
-ghost use Rattle.rows.specs.Rows.{rowSize, rowStart, codeBefore, periodRule, zoneRule, endsRule, stepRule, blockRule, periodFields, zoneFields, lineFields, stepFields, blockFields, rowOk};
+ghost use Rattle.rows.specs.Rows.{rowSize, rowStart, codeBefore, periodRule, zoneRule, endsRule, stepRule, blockRule, periodFields, zoneFields, lineFields, stepFields, blockFields, volumeFields, takenFields, rowOk};
 
-// The sections of a day file.
+// The sections of a day file, and those of a clearing file.
 pub enum Kind {
     Periods,
     Zones,
     Lines,
     Steps,
     Blocks,
+    Prices,
+    Flows,
+    Volumes,
+    Taken,
 }
 
 const PRICE_LEAST: i64 = -1000000;
 const PRICE_MOST: i64 = 1000000;
+const FLOW_LEAST: i64 = -1000000;
+const FLOW_MOST: i64 = 1000000;
 const VOLUME_MOST: u32 = 1000000;
-
-pub fn least(kind: Kind) -> usize
-    ensures { λ r. ⌜ r ≡ least kind ⌝ }
-{
-    match kind {
-        Kind::Periods => 1,
-        Kind::Zones => 1,
-        Kind::Lines => 0,
-        Kind::Steps => 0,
-        Kind::Blocks => 0,
-    }
-}
-
-pub fn most(kind: Kind) -> usize
-    ensures { λ r. ⌜ r ≡ most kind ⌝ }
-{
-    match kind {
-        Kind::Periods => 25,
-        Kind::Zones => 8,
-        Kind::Lines => 16,
-        Kind::Steps => 2000,
-        Kind::Blocks => 100,
-    }
-}
 
 pub fn row_size(kind: Kind, periods: usize) -> usize
     requires { ⌜ periods ≤ 25 ⌝ }
@@ -56,6 +39,10 @@ pub fn row_size(kind: Kind, periods: usize) -> usize
         Kind::Lines => 2 + 8 * periods,
         Kind::Steps => 12,
         Kind::Blocks => 8 + 4 * periods,
+        Kind::Prices => 4,
+        Kind::Flows => 4,
+        Kind::Volumes => 4,
+        Kind::Taken => 1,
     }
 }
 
@@ -180,6 +167,34 @@ fn block_ok(part: &[u8], periods: usize, zones: usize, at: usize) -> bool
         & !volumes_within(part, at + 8, periods, 0)
 }
 
+fn between(x: i64, least: i64, most: i64) -> bool
+    ensures { λ r. ⌜ r ≡ (leZ least x && leZ x most) ⌝ }
+{
+    (least <= x) & (x <= most)
+}
+
+// Whether an i32 lies from least to most.
+fn signed_ok(part: &[u8], at: usize, least: i64, most: i64) -> bool
+    requires { ⌜ at + 4 ≤ length (now part) ⌝ }
+    ensures { λ r. ⌜ r ≡ (leZ least (i32At (now (part .entry)) at) && leZ (i32At (now (part .entry)) at) most) ⌝ }
+{
+    between(wire::i32_at(part, at), least, most)
+}
+
+fn volume_ok(part: &[u8], at: usize) -> bool
+    requires { ⌜ at + 4 ≤ length (now part) ⌝ }
+    ensures { λ r. ⌜ r ≡ all (volumeFields (now (part .entry)) at) ⌝ }
+{
+    wire::u32_at(part, at) <= VOLUME_MOST
+}
+
+fn taken_ok(part: &[u8], at: usize) -> bool
+    requires { ⌜ at + 1 ≤ length (now part) ⌝ }
+    ensures { λ r. ⌜ r ≡ all (takenFields (now (part .entry)) at) ⌝ }
+{
+    wire::u8_at(part, at) <= 1
+}
+
 // Whether the row i of a section obeys its rule.
 pub fn row_ok(kind: Kind, periods: usize, zones: usize, part: &[u8], i: usize) -> bool
     requires { ⌜ (periods ≤ 25) × (2 + rowSize kind periods * (i + 1) ≤ length (now part)) ⌝ }
@@ -192,5 +207,9 @@ pub fn row_ok(kind: Kind, periods: usize, zones: usize, part: &[u8], i: usize) -
         Kind::Lines => line_ok(part, periods, zones, at),
         Kind::Steps => step_ok(part, periods, zones, at),
         Kind::Blocks => block_ok(part, periods, zones, at),
+        Kind::Prices => signed_ok(part, at, PRICE_LEAST, PRICE_MOST),
+        Kind::Flows => signed_ok(part, at, FLOW_LEAST, FLOW_MOST),
+        Kind::Volumes => volume_ok(part, at),
+        Kind::Taken => taken_ok(part, at),
     }
 }

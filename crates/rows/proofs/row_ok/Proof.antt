@@ -4,25 +4,31 @@ use Prim.Native.Nat.{_+_, _*_, _≤_}
 use native.Mathlib.Omega.{arith}
 use lib.ListN.{length}
 use denote.Ref.{now}
-use Rattle.sections.specs.Section.{all}
-use Rattle.rows.specs.Rows.{rowFields, rowOk}
-use Rattle.rows.specs.Laws.{row-is}
-use Rattle.rows.specs.declared.Kind.{Kind}
 use borrow.Author.Needs.{needs}
+use Rattle.sections.specs.Section.{all}
+use Rattle.rows.specs.Rows.{rowSize, rowFields, rowOk}
+use Rattle.rows.specs.Laws.{row-is, row-room}
+use Rattle.rows.specs.declared.Kind.{Kind}
 use Rattle.rows.proofs.row_ok.Statement.{statement}
 use Rattle.rows.proofs.row_ok.Tie as tie
 
 row-size-requires : tie.Need-row-size-requires
 row-size-requires c κs = search needs
 
--- the row lies within the part
+-- in the arm of a kind: the row lies within the part, and the kind's rule is the row's
+module _ (c : tie.After-row-size) {k : Kind} (e : c .before .before .args .kind ≡ k) where
+  abbrev start : tie.Start
+  start = c .before .before
+
+  in-room : 2 + c .row-size .result * start .args .i + rowSize k (start .args .periods) ≤ length (now (start .args .part))
+  in-room = row-room (start .args .periods) (start .args .i) (now (start .args .part)) e (c .row-size .ensures .0) (start .pre .1)
+
+  by-kind : all (rowFields k (start .args .periods) (start .args .zones) (now (start .args .part)) (start .args .i) (2 + c .row-size .result * start .args .i))
+      ≡ rowOk (start .args .kind) (start .args .periods) (start .args .zones) (now (start .args .part)) (start .args .i)
+  by-kind = row-is (start .args .periods) (start .args .zones) (now (start .args .part)) (start .args .i) e (c .row-size .ensures .0)
+
 room : (c : tie.After-row-size) → 2 + c .row-size .result * (c .before .before .args .i + 1) ≤ length (now (c .before .before .args .part))
 room c = rw (← c .row-size .ensures .0) at (c .before .before .pre .1)
-
-by-kind : (c : tie.After-row-size) {k : Kind} → c .before .before .args .kind ≡ k →
-    all (rowFields k (c .before .before .args .periods) (c .before .before .args .zones) (now (c .before .before .args .part)) (c .before .before .args .i) (2 + c .row-size .result * c .before .before .args .i))
-    ≡ rowOk (c .before .before .args .kind) (c .before .before .args .periods) (c .before .before .args .zones) (now (c .before .before .args .part)) (c .before .before .args .i)
-by-kind c e = row-is (c .before .before .args .periods) (c .before .before .args .zones) (now (c .before .before .args .part)) (c .before .before .args .i) e (c .row-size .ensures .0)
 
 mul-at : tie.Need-mul-at
 mul-at c = omega (arith, room c)
@@ -34,43 +40,55 @@ enum-told : tie.Need-enum-told
 enum-told c = search needs
 
 period-ok-requires : tie.Need-period-ok-requires
-period-ok-requires c κs =
-    let size : c .before .before .row-size .result ≡ 8 = cc in
-    omega (arith, room (c .before .before))
+period-ok-requires c κs = in-room (c .before .before) (c .enum-told .given .1)
 
 enum-told-2 : tie.Need-enum-told-2
 enum-told-2 c = search needs
 
 zone-ok-requires : tie.Need-zone-ok-requires
-zone-ok-requires c κs =
-    let size : c .before .before .row-size .result ≡ 2 = cc in
-    omega (arith, room (c .before .before))
+zone-ok-requires c κs = (omega arith, in-room (c .before .before) (c .enum-told2 .given .1))
 
 enum-told-3 : tie.Need-enum-told-3
 enum-told-3 c = search needs
 
 line-ok-requires : tie.Need-line-ok-requires
-line-ok-requires c κs =
-    let periods = c .before .before .before .before .args .periods in
-    let size : c .before .before .row-size .result ≡ 2 + 8 * periods = cc in
-    (c .before .before .before .before .pre .0, omega (arith, room (c .before .before)))
+line-ok-requires c κs = (c .before .before .before .before .pre .0, in-room (c .before .before) (c .enum-told3 .given .1))
 
 enum-told-4 : tie.Need-enum-told-4
 enum-told-4 c = search needs
 
 step-ok-requires : tie.Need-step-ok-requires
-step-ok-requires c κs =
-    let size : c .before .before .row-size .result ≡ 12 = cc in
-    omega (arith, room (c .before .before))
+step-ok-requires c κs = in-room (c .before .before) (c .enum-told4 .given .1)
 
 enum-told-5 : tie.Need-enum-told-5
 enum-told-5 c = search needs
 
 block-ok-requires : tie.Need-block-ok-requires
-block-ok-requires c κs =
-    let periods = c .before .before .before .before .args .periods in
-    let size : c .before .before .row-size .result ≡ 8 + 4 * periods = cc in
-    (c .before .before .before .before .pre .0, omega (arith, room (c .before .before)))
+block-ok-requires c κs = (c .before .before .before .before .pre .0, in-room (c .before .before) (c .enum-told5 .given .1))
+
+enum-told-6 : tie.Need-enum-told-6
+enum-told-6 c = search needs
+
+signed-ok-requires : tie.Need-signed-ok-requires
+signed-ok-requires c κs = in-room (c .before .before) (c .enum-told6 .given .1)
+
+enum-told-7 : tie.Need-enum-told-7
+enum-told-7 c = search needs
+
+signed-ok-requires-2 : tie.Need-signed-ok-requires-2
+signed-ok-requires-2 c κs = in-room (c .before .before) (c .enum-told7 .given .1)
+
+enum-told-8 : tie.Need-enum-told-8
+enum-told-8 c = search needs
+
+volume-ok-requires : tie.Need-volume-ok-requires
+volume-ok-requires c κs = in-room (c .before .before) (c .enum-told8 .given .1)
+
+enum-told-9 : tie.Need-enum-told-9
+enum-told-9 c = search needs
+
+taken-ok-requires : tie.Need-taken-ok-requires
+taken-ok-requires c κs = in-room (c .before .before) (c .enum-told9 .given .1)
 
 returns : tie.Need-returns
 returns c = c .period-ok .ensures ∙ by-kind (c .before .before .before) (c .before .enum-told .given .1)
@@ -86,6 +104,18 @@ returns-4 c = c .step-ok .ensures ∙ by-kind (c .before .before .before) (c .be
 
 returns-5 : tie.Need-returns-5
 returns-5 c = c .block-ok .ensures ∙ by-kind (c .before .before .before) (c .before .enum-told5 .given .1)
+
+returns-6 : tie.Need-returns-6
+returns-6 c = c .signed-ok .ensures ∙ by-kind (c .before .before .before) (c .before .enum-told6 .given .1)
+
+returns-7 : tie.Need-returns-7
+returns-7 c = c .signed-ok2 .ensures ∙ by-kind (c .before .before .before) (c .before .enum-told7 .given .1)
+
+returns-8 : tie.Need-returns-8
+returns-8 c = c .volume-ok .ensures ∙ by-kind (c .before .before .before) (c .before .enum-told8 .given .1)
+
+returns-9 : tie.Need-returns-9
+returns-9 c = c .taken-ok .ensures ∙ by-kind (c .before .before .before) (c .before .enum-told9 .given .1)
 
 pub row-ok-spec : {M : Type 1} → statement M
 row-ok-spec =
@@ -104,8 +134,20 @@ row-ok-spec =
     step-ok-requires
     enum-told-5
     block-ok-requires
+    enum-told-6
+    signed-ok-requires
+    enum-told-7
+    signed-ok-requires-2
+    enum-told-8
+    volume-ok-requires
+    enum-told-9
+    taken-ok-requires
     returns
     returns-2
     returns-3
     returns-4
-    returns-5)
+    returns-5
+    returns-6
+    returns-7
+    returns-8
+    returns-9)
