@@ -3,11 +3,12 @@ use Prim.Native.Nat.{ℕ, _+_, _*_}
 use mathlib.Core.List.{List, _++_}
 use Rattle.stages.specs.Stage.{Stage, firstFault, answer}
 use Rattle.stages.specs.declared.Place.{Place}
-use Rattle.sections.specs.Section.{Numbers, count, section, after, ended}
-use Rattle.rows.specs.Limits.{least, most}
-use Rattle.rows.specs.Rows.{rowSize, rowOk}
+use Rattle.sections.specs.Section.{Numbers, count, after, ended}
+use Rattle.rows.specs.Limits.{mostPeriods, mostZones, mostLines, mostSteps, mostBlocks}
+use Rattle.rows.specs.Rows.{rowSize}
 use Rattle.rows.specs.declared.Kind.{Kind}
 use Rattle.rows.specs.declared.Kind.the-variants.{Periods, Zones, Lines, Steps, Blocks}
+use Rattle.reader.specs.Reader.{fileSection}
 use Rattle.day.specs.declared.Counts.{Counts}
 use Rattle.day.specs.declared.DayFile.{DayFile}
 use Rattle.day.specs.declared.DayFile.the-variants.{Good, Bad}
@@ -32,13 +33,6 @@ blocksPart day = after (rowSize Steps (periods day)) (stepsPart day)
 abbrev pub endPart : List ℕ → List ℕ
 endPart day = after (rowSize Blocks (periods day)) (blocksPart day)
 
-abbrev pub partOf : Kind → List ℕ → List ℕ
-partOf Periods day = day
-partOf Zones day = zonesPart day
-partOf Lines day = linesPart day
-partOf Steps day = stepsPart day
-partOf Blocks day = blocksPart day
-
 abbrev pub zones : List ℕ → ℕ
 zones day = count (zonesPart day)
 
@@ -53,29 +47,22 @@ counts day = record {
 
 -- ---- refusals 1 to 4, in the order in which they are looked for
 
-abbrev pub sectionNumber : Kind → ℕ
-sectionNumber Periods = 1
-sectionNumber Zones = 2
-sectionNumber Lines = 3
-sectionNumber Steps = 4
-sectionNumber Blocks = 5
-
 -- 1: the file ends inside a section's count or rows. 2: a count beyond its limits. 3: a row that breaks its section's rule
 abbrev pub dayNumbers : Numbers
 dayNumbers = record { cut = 1; beyond = 2; bad = 3 }
 
-abbrev pub daySection : Kind → ℕ → ℕ → List ℕ → List Stage
-daySection kind periods zones part =
-    section dayNumbers (sectionNumber kind) (least kind) (most kind) (rowSize kind periods) (rowOk kind periods zones part) part
+-- the section's number, the kind of its rows, how many it has at least and at most; the day's periods and zones; the file from its count on
+abbrev pub daySection : ℕ → Kind → ℕ → ℕ → ℕ → ℕ → List ℕ → List Stage
+daySection = fileSection dayNumbers
 
 -- 4: bytes after the last section
 unfoldable pub dayStages : List ℕ → List Stage
 dayStages day =
-    daySection Periods 0 0 day
-    ++ daySection Zones (periods day) 0 (zonesPart day)
-    ++ daySection Lines (periods day) (zones day) (linesPart day)
-    ++ daySection Steps (periods day) (zones day) (stepsPart day)
-    ++ daySection Blocks (periods day) (zones day) (blocksPart day)
+    daySection 1 Periods 1 mostPeriods 0 0 day
+    ++ daySection 2 Zones 1 mostZones (periods day) 0 (zonesPart day)
+    ++ daySection 3 Lines 0 mostLines (periods day) (zones day) (linesPart day)
+    ++ daySection 4 Steps 0 mostSteps (periods day) (zones day) (stepsPart day)
+    ++ daySection 5 Blocks 0 mostBlocks (periods day) (zones day) (blocksPart day)
     ++ ended 4 (endPart day)
 
 -- ---- what the reader of a day file answers

@@ -3,8 +3,12 @@ use mathlib.Core.Path.{_≡_, sym, _∙_}
 use denote.Ref.{now}
 use borrow.Author.Needs.{needs}
 use Rattle.sections.specs.Section.{ended}
+use Rattle.reader.specs.Chain.{reading-read, fault-returns, handed-on}
+use Rattle.rows.specs.Limits.{mostBlocks}
 use Rattle.rows.specs.declared.Kind.the-variants.{Blocks}
-use Rattle.day.specs.Chain.{reading-read, fault-returns, handed-on, countsOf}
+use Rattle.day.specs.Day.{dayNumbers}
+use Rattle.day.specs.Chain.{countsOf}
+use Rattle.day.specs.declared.DayFile.the-variants.{Good, Bad}
 use Rattle.day.proofs.from_blocks.Statement.{statement}
 use Rattle.day.proofs.from_blocks.Tie as tie
 
@@ -20,7 +24,8 @@ enum-known-blocks c = search needs
 rest-requires : tie.Need-rest-requires
 rest-requires c κs =
     let a = c .before .before .before .before .before .args in
-    (c .before .before .before .before .before .pre, reading-read Blocks (a .periods) (a .zones) (now (a .part)) (sym (c .before .before .before .read-section .ensures) ∙ c .before .blocks2 .given .1))
+    let r = reading-read dayNumbers 5 Blocks 0 mostBlocks (a .periods) (a .zones) (now (a .part)) (sym (c .before .before .before .read-section .ensures) ∙ c .before .blocks2 .given .1) in
+    (c .before .before .before .before .before .pre, (r .counted, r .room))
 
 from-end-requires : tie.Need-from-end-requires
 from-end-requires c κs = search needs
@@ -28,12 +33,12 @@ from-end-requires c κs = search needs
 returns : tie.Need-returns
 returns c =
     let a = c .before .before .before .before .before .args in
-    fault-returns Blocks (a .periods) (a .zones) (now (a .part)) (λ left n. countsOf (a .periods) (a .zones) (a .lines) (a .steps) n) (λ left n. ended 4 left) (sym (c .before .before .before .read-section .ensures) ∙ c .before .k .given .1)
+    fault-returns dayNumbers 5 Blocks 0 mostBlocks (a .periods) (a .zones) (now (a .part)) Bad (λ left n. Good (countsOf (a .periods) (a .zones) (a .lines) (a .steps) n)) (λ left n. ended 4 left) (sym (c .before .before .before .read-section .ensures) ∙ c .before .k .given .1)
 
 returns-2 : tie.Need-returns-2
 returns-2 c =
     let a = c .before .before .before .before .before .before .before .args in
-    handed-on Blocks (a .periods) (a .zones) (now (a .part)) (λ left n. countsOf (a .periods) (a .zones) (a .lines) (a .steps) n) (λ left n. ended 4 left) (sym (c .before .before .before .before .before .read-section .ensures) ∙ c .before .before .before .blocks2 .given .1) (c .before .rest .ensures) (c .from-end .ensures)
+    handed-on dayNumbers 5 Blocks 0 mostBlocks (a .periods) (a .zones) (now (a .part)) Bad (λ left n. Good (countsOf (a .periods) (a .zones) (a .lines) (a .steps) n)) (λ left n. ended 4 left) (sym (c .before .before .before .before .before .read-section .ensures) ∙ c .before .before .before .blocks2 .given .1) (c .before .rest .ensures) (c .from-end .ensures)
 
 pub from-blocks-spec : {M : Type 1} → statement M
 from-blocks-spec =

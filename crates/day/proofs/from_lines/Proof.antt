@@ -2,8 +2,12 @@
 use mathlib.Core.Path.{_≡_, sym, _∙_}
 use denote.Ref.{now}
 use borrow.Author.Needs.{needs}
+use Rattle.reader.specs.Chain.{reading-read, fault-returns, handed-on}
+use Rattle.rows.specs.Limits.{mostLines}
 use Rattle.rows.specs.declared.Kind.the-variants.{Lines}
-use Rattle.day.specs.Chain.{reading-read, fault-returns, handed-on, countsSteps, fromSteps}
+use Rattle.day.specs.Day.{dayNumbers}
+use Rattle.day.specs.Chain.{countsSteps, fromSteps}
+use Rattle.day.specs.declared.DayFile.the-variants.{Good, Bad}
 use Rattle.day.proofs.from_lines.Statement.{statement}
 use Rattle.day.proofs.from_lines.Tie as tie
 
@@ -19,7 +23,8 @@ enum-known-lines c = search needs
 rest-requires : tie.Need-rest-requires
 rest-requires c κs =
     let a = c .before .before .before .before .before .args in
-    (c .before .before .before .before .before .pre, reading-read Lines (a .periods) (a .zones) (now (a .part)) (sym (c .before .before .before .read-section .ensures) ∙ c .before .lines .given .1))
+    let r = reading-read dayNumbers 3 Lines 0 mostLines (a .periods) (a .zones) (now (a .part)) (sym (c .before .before .before .read-section .ensures) ∙ c .before .lines .given .1) in
+    (c .before .before .before .before .before .pre, (r .counted, r .room))
 
 from-steps-requires : tie.Need-from-steps-requires
 from-steps-requires c κs = c .before .before .before .before .before .before .pre
@@ -27,12 +32,12 @@ from-steps-requires c κs = c .before .before .before .before .before .before .p
 returns : tie.Need-returns
 returns c =
     let a = c .before .before .before .before .before .args in
-    fault-returns Lines (a .periods) (a .zones) (now (a .part)) (λ left n. countsSteps (a .periods) (a .zones) n left) (λ left n. fromSteps (a .periods) (a .zones) left) (sym (c .before .before .before .read-section .ensures) ∙ c .before .k .given .1)
+    fault-returns dayNumbers 3 Lines 0 mostLines (a .periods) (a .zones) (now (a .part)) Bad (λ left n. Good (countsSteps (a .periods) (a .zones) n left)) (λ left n. fromSteps (a .periods) (a .zones) left) (sym (c .before .before .before .read-section .ensures) ∙ c .before .k .given .1)
 
 returns-2 : tie.Need-returns-2
 returns-2 c =
     let a = c .before .before .before .before .before .before .before .args in
-    handed-on Lines (a .periods) (a .zones) (now (a .part)) (λ left n. countsSteps (a .periods) (a .zones) n left) (λ left n. fromSteps (a .periods) (a .zones) left) (sym (c .before .before .before .before .before .read-section .ensures) ∙ c .before .before .before .lines .given .1) (c .before .rest .ensures) (c .from-steps .ensures)
+    handed-on dayNumbers 3 Lines 0 mostLines (a .periods) (a .zones) (now (a .part)) Bad (λ left n. Good (countsSteps (a .periods) (a .zones) n left)) (λ left n. fromSteps (a .periods) (a .zones) left) (sym (c .before .before .before .before .before .read-section .ensures) ∙ c .before .before .before .lines .given .1) (c .before .rest .ensures) (c .from-steps .ensures)
 
 pub from-lines-spec : {M : Type 1} → statement M
 from-lines-spec =

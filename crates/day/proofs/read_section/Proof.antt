@@ -7,15 +7,11 @@ use Rattle.day.proofs.read_section.Tie as tie
 read-rows-requires : tie.Need-read-rows-requires
 read-rows-requires c κs = search needs
 
-section-number-requires : tie.Need-section-number-requires
-section-number-requires c κs = search needs
-
 named-requires : tie.Need-named-requires
 named-requires c κs = search needs
 
 returns : tie.Need-returns
-returns c = c .named .ensures ∙ rw (c .before .section-number .ensures, c .before .before .read-rows .ensures)
+returns c = c .named .ensures ∙ rw (c .before .read-rows .ensures)
 
 pub read-section-spec : {M : Type 1} → statement M
-read-section-spec =
-    tie.close (tie.spec read-rows-requires section-number-requires named-requires returns)
+read-section-spec = tie.close (tie.spec read-rows-requires named-requires returns)

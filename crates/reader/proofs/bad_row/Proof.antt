@@ -1,4 +1,4 @@
--- `day::bad_row` meets its contract: the rows before i obey their rule. Assumes nothing.
+-- `reader::bad_row` meets its contract: the rows before i obey their rule. Assumes nothing.
 use mathlib.Core.Path.{sym, _∙_}
 use Prim.Native.Nat.{_+_, _*_, _≤_, _-_}
 use native.Mathlib.Nat.{mul-le-mul-left}
@@ -7,8 +7,8 @@ use borrow.Author.Needs.{needs}
 use borrow.Author.Tests.{not-true, not-false}
 use Rattle.stages.specs.First.{Passed, none-yet, more, stop, done}
 use Rattle.rows.specs.Rows.{rowSize, rowOk}
-use Rattle.day.proofs.bad_row.Statement.{statement}
-use Rattle.day.proofs.bad_row.Tie as tie
+use Rattle.reader.proofs.bad_row.Statement.{statement}
+use Rattle.reader.proofs.bad_row.Tie as tie
 
 abbrev Inv-loop : tie.InvT-loop
 Inv-loop kind periods zones part n i₀ i = (i ≤ n) × Passed (rowOk kind periods zones part) i

@@ -1,37 +1,30 @@
--- `day::read_rows` meets its contract. Assumes nothing.
+-- `reader::read_rows` meets its contract. Assumes nothing.
 use mathlib.Core.Path.{_≡_, sym, ap, _∙_}
 use mathlib.Core.Bool.{Bool}
 use Prim.Native.Nat.{ℕ}
 use denote.Ref.{now}
 use Rattle.sections.specs.Answer.{headOf, head-read, head-same, head-section, rowsBy, withRows, sectionOf}
 use Rattle.sections.specs.declared.Section.{Section}
-use Rattle.rows.specs.Limits.{least, most}
 use Rattle.rows.specs.Rows.{rowSize, rowOk}
 use borrow.Author.Needs.{needs}
-use Rattle.day.proofs.read_rows.Statement.{statement}
-use Rattle.day.proofs.read_rows.Tie as tie
+use Rattle.reader.proofs.read_rows.Statement.{statement}
+use Rattle.reader.proofs.read_rows.Tie as tie
 
 module _ (c : tie.After-read-head) where
   abbrev start : tie.Start
-  start = c .before .before .before .before .before
+  start = c .before .before .before
 
   abbrev test : ℕ → Bool
   test = rowOk (start .args .kind) (start .args .periods) (start .args .zones) (now (start .args .part))
 
-  head-is : c .read-head .result ≡ headOf (least (start .args .kind)) (most (start .args .kind)) (rowSize (start .args .kind) (start .args .periods)) (now (start .args .part))
-  head-is = head-same (now (start .args .part)) (c .before .before .least .ensures) (c .before .most .ensures) (c .before .before .before .row-size .ensures .0) (c .read-head .ensures)
+  head-is : c .read-head .result ≡ headOf (start .args .least) (start .args .most) (rowSize (start .args .kind) (start .args .periods)) (now (start .args .part))
+  head-is = head-same (start .args .least) (start .args .most) (now (start .args .part)) (c .before .row-size .ensures .0) (c .read-head .ensures)
 
-  answered : {x : Section} → c .read-head .result ≡ x → withRows test x ≡ sectionOf (least (start .args .kind)) (most (start .args .kind)) (rowSize (start .args .kind) (start .args .periods)) test (now (start .args .part))
-  answered e = head-section (least (start .args .kind)) (most (start .args .kind)) (rowSize (start .args .kind) (start .args .periods)) test (now (start .args .part)) (sym e ∙ head-is)
+  answered : {x : Section} → c .read-head .result ≡ x → withRows test x ≡ sectionOf (start .args .least) (start .args .most) (rowSize (start .args .kind) (start .args .periods)) test (now (start .args .part))
+  answered e = head-section (start .args .least) (start .args .most) (rowSize (start .args .kind) (start .args .periods)) test (now (start .args .part)) (sym e ∙ head-is)
 
 row-size-requires : tie.Need-row-size-requires
 row-size-requires c κs = search needs
-
-least-requires : tie.Need-least-requires
-least-requires c κs = search needs
-
-most-requires : tie.Need-most-requires
-most-requires c κs = search needs
 
 read-head-requires : tie.Need-read-head-requires
 read-head-requires c κs = search needs
@@ -43,7 +36,7 @@ bad-row-requires : tie.Need-bad-row-requires
 bad-row-requires c κs =
     let h = c .before .before .before in
     let a = start h .args in
-    (start h .pre, head-read (least (a .kind)) (most (a .kind)) (rowSize (a .kind) (a .periods)) (now (a .part)) (c .before .n .given .0 .0) (sym (head-is h) ∙ c .before .n .given .1) .room)
+    (start h .pre, head-read (a .least) (a .most) (rowSize (a .kind) (a .periods)) (now (a .part)) (c .before .n .given .0 .0) (sym (head-is h) ∙ c .before .n .given .1) .room)
 
 enum-known-i : tie.Need-enum-known-i
 enum-known-i c = search needs
@@ -84,8 +77,6 @@ read-rows-spec =
     tie.close
     (tie.spec
     row-size-requires
-    least-requires
-    most-requires
     read-head-requires
     enum-known-n
     bad-row-requires

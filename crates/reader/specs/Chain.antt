@@ -1,0 +1,45 @@
+-- A section's answer taken apart. Assumes nothing.
+use Prim.Native.Nat.{ℕ}
+use mathlib.Core.Path.{_≡_, sym, _∙_}
+use mathlib.Core.Bool.{true}
+use mathlib.Core.List.{List, _++_}
+use Prim.Native.Nat.{_<_}
+use Rattle.stages.specs.First.{firstBad}
+use Rattle.stages.specs.Stage.{Stage, firstFault, answer}
+use Rattle.stages.specs.declared.Place.{Place}
+use Rattle.stages.specs.declared.Fault.the-variants.{Broken}
+use Rattle.sections.specs.Section.{Numbers, count, after}
+use Rattle.sections.specs.Answer.{Read, reading-rows, section-read, then-refused, then-good}
+use Rattle.sections.specs.declared.Reading.the-variants.{Good, Refused}
+use Rattle.rows.specs.Rows.{rowSize, rowOk}
+use Rattle.rows.specs.declared.Kind.{Kind}
+use Rattle.reader.specs.Reader.{fileSection, rowsAt, readingAt}
+
+module _ (numbers : Numbers) (number : ℕ) (kind : Kind) (least most periods zones : ℕ) (part : List ℕ) where
+  -- a section that reads without fault has its count of rows, and they lie within the part
+  pub reading-read : {n : ℕ} → readingAt numbers number kind least most periods zones part ≡ Good n → Read least most (rowSize kind periods) part n
+  reading-read {n} e =
+      section-read least most (rowSize kind periods) (rowOk kind periods zones part) part n
+      (reading-rows numbers number (rowsAt kind least most periods zones part) n e)
+
+  -- `good` and `rest` are what comes after the section: the answer where all is good, and the stages, by what is left of the file and the
+  -- section's own count
+  module _ {A : Type 0} (bad : ℕ → Place → A) (good : List ℕ → ℕ → A) (rest : List ℕ → ℕ → List Stage) where
+    abbrev pub answered : A
+    answered =
+        let left = after (rowSize kind periods) part in
+        answer (good left (count part)) bad (firstFault (fileSection numbers number kind least most periods zones part ++ rest left (count part)))
+
+    -- a fault returns at once
+    pub fault-returns : {k : ℕ} {p : Place} → readingAt numbers number kind least most periods zones part ≡ Refused k p → bad k p ≡ answered
+    fault-returns {k} {p} e =
+        rw (then-refused numbers number least most (rowSize kind periods) (rowOk kind periods zones part) part
+        (rest (after (rowSize kind periods) part) (count part)) k p e)
+
+    -- what is left of the file is handed on
+    pub handed-on : {n : ℕ} {left : List ℕ} {r : A} → readingAt numbers number kind least most periods zones part ≡ Good n →
+        left ≡ after (rowSize kind periods) part → r ≡ answer (good left n) bad (firstFault (rest left n)) → r ≡ answered
+    handed-on {n} e l q =
+        q ∙ rw (l, ← reading-read e .counted,
+        then-good numbers number least most (rowSize kind periods) (rowOk kind periods zones part) part
+        (rest (after (rowSize kind periods) part) (count part)) n e)

@@ -1,0 +1,22 @@
+-- A section of either file, by the kind of its rows. Assumes nothing.
+use Prim.Native.Nat.{ℕ}
+use mathlib.Core.List.{List}
+use Rattle.stages.specs.Stage.{Stage}
+use Rattle.sections.specs.Section.{Numbers, section}
+use Rattle.sections.specs.Answer.{readingOf, sectionOf}
+use Rattle.sections.specs.declared.Section.{Section}
+use Rattle.sections.specs.declared.Reading.{Reading}
+use Rattle.rows.specs.Rows.{rowSize, rowOk}
+use Rattle.rows.specs.declared.Kind.{Kind}
+
+-- the section with this number, with so many rows, in a day of so many periods and zones
+abbrev pub fileSection : Numbers → ℕ → Kind → ℕ → ℕ → ℕ → ℕ → List ℕ → List Stage
+fileSection numbers number kind least most periods zones part =
+    section numbers number least most (rowSize kind periods) (rowOk kind periods zones part) part
+
+-- its reader's answer, and the same with the number and the place of a fault
+abbrev pub rowsAt : Kind → ℕ → ℕ → ℕ → ℕ → List ℕ → Section
+rowsAt kind least most periods zones part = sectionOf least most (rowSize kind periods) (rowOk kind periods zones part) part
+
+abbrev pub readingAt : Numbers → ℕ → Kind → ℕ → ℕ → ℕ → ℕ → List ℕ → Reading
+readingAt numbers number kind least most periods zones part = readingOf numbers number (rowsAt kind least most periods zones part)

@@ -1,0 +1,56 @@
+// One section of either file, by the kind of its rows.
+use rows::Kind;
+use sections::Section;
+use stages::Found;
+ghost use mathlib.Core.Path.{_≡_};
+ghost use Prim.Native.Nat.{_+_, _*_, _≤_};
+ghost use lib.ListN.{length};
+ghost use Rattle.stages.specs.First.{firstBad};
+ghost use Rattle.sections.specs.Section.{count, after};
+ghost use Rattle.rows.specs.Rows.{rowSize, rowOk};
+ghost use Rattle.reader.specs.Reader.{rowsAt};
+
+// The first row of a section that breaks its rule.
+fn bad_row(kind: Kind, periods: usize, zones: usize, part: &[u8], n: usize) -> Found
+    requires { ⌜ (periods ≤ 25) × (2 + rowSize kind periods * n ≤ length (now part)) ⌝ }
+    ensures { λ r. ⌜ r ≡ firstBad n (rowOk kind periods zones (now (part .entry))) ⌝ }
+{
+    for i in 0..n {
+        if !rows::row_ok(kind, periods, zones, part, i) {
+            return Found::At(i);
+        }
+    }
+    Found::Nothing
+}
+
+// A section of least to most rows: the count, its limit, room for all rows, then the rows in order.
+pub fn read_rows(
+    kind: Kind,
+    least: usize,
+    most: usize,
+    periods: usize,
+    zones: usize,
+    part: &[u8],
+) -> Section
+    requires { ⌜ periods ≤ 25 ⌝ }
+    ensures { λ r. ⌜ r ≡ rowsAt kind least most periods zones (now (part .entry)) ⌝ }
+{
+    let size = rows::row_size(kind, periods);
+    match sections::read_head(part, least, most, size) {
+        Section::Rows(n) => match bad_row(kind, periods, zones, part, n) {
+            Found::At(i) => Section::BadRow(i),
+            Found::Nothing => Section::Rows(n),
+        },
+        Section::CutOff => Section::CutOff,
+        Section::Beyond => Section::Beyond,
+        Section::BadRow(i) => Section::BadRow(i),
+    }
+}
+
+// What is left of a file after a section of n rows.
+pub fn rest<'a>(kind: Kind, periods: usize, part: &'a [u8], n: usize) -> &'a [u8]
+    requires { ⌜ (periods ≤ 25) × ((count (now part) ≡ n) × (2 + rowSize kind periods * n ≤ length (now part))) ⌝ }
+    ensures { λ r. ⌜ now r ≡ after (rowSize kind periods) (now (part .entry)) ⌝ }
+{
+    sections::after(part, n, rows::row_size(kind, periods))
+}
