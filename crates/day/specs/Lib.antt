@@ -2,3 +2,5 @@
 pub mod Day
 -- The same stages from each section on, as the readers hand on what is left of the file.
 pub mod Chain
+-- What a day file that reads without fault guarantees, and what the reader's two answers mean.
+pub mod Good

@@ -1,19 +1,18 @@
 -- A section's answer taken apart. Assumes nothing.
 use Prim.Native.Nat.{ℕ}
-use mathlib.Core.Path.{_≡_, sym, _∙_}
-use mathlib.Core.Bool.{true}
+use mathlib.Core.Path.{_≡_, _∙_}
+use mathlib.Core.Logic.{_↔_}
 use mathlib.Core.List.{List, _++_}
-use Prim.Native.Nat.{_<_}
-use Rattle.stages.specs.First.{firstBad}
-use Rattle.stages.specs.Stage.{Stage, firstFault, answer}
+use Rattle.stages.specs.Stage.{Stage, Means, clean-++, firstFault, answer}
 use Rattle.stages.specs.declared.Place.{Place}
-use Rattle.stages.specs.declared.Fault.the-variants.{Broken}
+use Rattle.stages.specs.declared.Fault.the-variants.{Clean}
 use Rattle.sections.specs.Section.{Numbers, count, after}
 use Rattle.sections.specs.Answer.{Read, reading-rows, section-read, then-refused, then-good}
+use Rattle.sections.specs.Good.{section-clean}
 use Rattle.sections.specs.declared.Reading.the-variants.{Good, Refused}
 use Rattle.rows.specs.Rows.{rowSize, rowOk}
 use Rattle.rows.specs.declared.Kind.{Kind}
-use Rattle.reader.specs.Reader.{fileSection, rowsAt, readingAt}
+use Rattle.reader.specs.Reader.{fileSection, GoodRows, rowsAt, readingAt}
 
 module _ (numbers : Numbers) (number : ℕ) (kind : Kind) (least most periods zones : ℕ) (part : List ℕ) where
   -- a section that reads without fault has its count of rows, and they lie within the part
@@ -21,6 +20,14 @@ module _ (numbers : Numbers) (number : ℕ) (kind : Kind) (least most periods zo
   reading-read {n} e =
       section-read least most (rowSize kind periods) (rowOk kind periods zones part) part n
       (reading-rows numbers number (rowsAt kind least most periods zones part) n e)
+
+  -- all stages are clean, from this section on
+  pub then-clean : (rest : List Stage) →
+      Means (fileSection numbers number kind least most periods zones part ++ rest) Clean ↔ (GoodRows kind least most periods zones part × Means rest Clean)
+  then-clean rest =
+      let c = clean-++ (fileSection numbers number kind least most periods zones part) rest in
+      let g = section-clean numbers number least most (rowSize kind periods) (rowOk kind periods zones part) part in
+      (λ m. (g .0 (c .0 m .0), c .0 m .1), λ m. c .1 (g .1 (m .0), m .1))
 
   -- `good` and `rest` are what comes after the section: the answer where all is good, and the stages, by what is left of the file and the
   -- section's own count

@@ -3,6 +3,7 @@ use Prim.Native.Nat.{ℕ}
 use mathlib.Core.List.{List}
 use Rattle.stages.specs.Stage.{Stage}
 use Rattle.sections.specs.Section.{Numbers, section}
+use Rattle.sections.specs.Good.{GoodSection}
 use Rattle.sections.specs.Answer.{readingOf, sectionOf}
 use Rattle.sections.specs.declared.Section.{Section}
 use Rattle.sections.specs.declared.Reading.{Reading}
@@ -13,6 +14,10 @@ use Rattle.rows.specs.declared.Kind.{Kind}
 abbrev pub fileSection : Numbers → ℕ → Kind → ℕ → ℕ → ℕ → ℕ → List ℕ → List Stage
 fileSection numbers number kind least most periods zones part =
     section numbers number least most (rowSize kind periods) (rowOk kind periods zones part) part
+
+-- it reads without fault
+abbrev pub GoodRows : Kind → ℕ → ℕ → ℕ → ℕ → List ℕ → Type 0
+GoodRows kind least most periods zones part = GoodSection least most (rowSize kind periods) (rowOk kind periods zones part) part
 
 -- its reader's answer, and the same with the number and the place of a fault
 abbrev pub rowsAt : Kind → ℕ → ℕ → ℕ → ℕ → List ℕ → Section

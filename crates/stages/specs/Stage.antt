@@ -1,7 +1,7 @@
 -- A check is a list of stages. A stage is a number and a test at each cell of a table; its fault is the first cell, row by row, at which
 -- the test fails; the fault of a list is that of its first stage that has one. What an answer means is proved here once, for every list:
 -- a rule more is one more stage in the list. Assumes nothing.
-use mathlib.Core.Path.{_≡_, refl, sym, subst}
+use mathlib.Core.Path.{_≡_, refl, sym, subst, ap, _∙_}
 use mathlib.Core.Logic.{_↔_, _⊎_, inl, inr, ⊎-elim}
 use mathlib.Core.Bool.{Bool, true, false}
 use mathlib.Core.List.{List, [], _∷_, _++_}
@@ -174,3 +174,34 @@ clean-++ (s ∷ xs) ys = (
   λ m. let r = clean-++ xs ys .0 (m .1) in ((m .0, r .0), r .1),
   λ m. (m .0 .0, clean-++ xs ys .1 (m .0 .1, m .1)),
 )
+
+-- ---- an answer that is made of the first fault
+
+broken-clean : {A : Type 0} {k : ℕ} {p : Place} → Broken k p ≡ Clean → A
+broken-clean e = let z : _≡_ {A = ℕ} 0 1 = cc in absurd (omega arith)
+
+-- where a good answer is no bad one, and a bad answer has one number and one place
+module _ {A : Type 0} (good : A) (bad : ℕ → Place → A) (apart-answers : (k : ℕ) (p : Place) → ¬ (bad k p ≡ good))
+    (fault : A → Fault) (fault-of : (k : ℕ) (p : Place) → fault (bad k p) ≡ Broken k p) (ss : List Stage) where
+  good-of : (f : Fault) → (answer good bad f ≡ good) ↔ (f ≡ Clean)
+  good-of Clean = (λ e. refl, λ e. refl)
+  good-of (Broken k p) = (λ e. absurd (apart-answers k p e), λ e. broken-clean e)
+
+  bad-of : (k : ℕ) (p : Place) (f : Fault) → (answer good bad f ≡ bad k p) ↔ (f ≡ Broken k p)
+  bad-of k p Clean = (λ e. absurd (apart-answers k p (sym e)), λ e. broken-clean (sym e))
+  bad-of k p (Broken l q) = (
+    λ e. sym (fault-of l q) ∙ ap fault e ∙ fault-of k p,
+    λ e. ap (answer good bad) e,
+  )
+
+  -- the good answer is given just where every stage's test holds everywhere
+  pub answer-good : (answer good bad (firstFault ss) ≡ good) ↔ Means ss Clean
+  answer-good =
+      let g = good-of (firstFault ss) in
+      (λ e. means ss Clean .0 (g .0 e), λ m. g .1 (means ss Clean .1 m))
+
+  -- a bad one, just where that is the first fault
+  pub answer-bad : (k : ℕ) (p : Place) → (answer good bad (firstFault ss) ≡ bad k p) ↔ Means ss (Broken k p)
+  answer-bad k p =
+      let b = bad-of k p (firstFault ss) in
+      (λ e. means ss (Broken k p) .0 (b .0 e), λ m. b .1 (means ss (Broken k p) .1 m))

@@ -1,0 +1,142 @@
+-- What a day file that reads without fault guarantees, and what the reader's two answers mean. Assumes nothing.
+use Prim.Native.Nat.{ℕ, _+_, _*_, _<_, _≤_}
+use native.Mathlib.Nat.{mul-le-mul}
+use native.Mathlib.Omega.{arith}
+use mathlib.Core.Path.{_≡_, refl, sym, ap, _∙_}
+use mathlib.Core.Logic.{_↔_}
+use mathlib.Core.List.{List}
+use lib.ListN.{length}
+use Rattle.stages.specs.Stage.{Means, firstFault, answer, answer-good, answer-bad}
+use Rattle.stages.specs.declared.Place.{Place}
+use Rattle.stages.specs.declared.Fault.{Fault}
+use Rattle.stages.specs.declared.Fault.the-variants.{Broken, Clean}
+use Rattle.sections.specs.Section.{count, after, ended}
+use Rattle.sections.specs.Good.{GoodSection, ended-clean, part-length}
+use Rattle.rows.specs.Limits.{mostPeriods, mostZones, mostLines, mostSteps, mostBlocks}
+use Rattle.rows.specs.Rows.{rowSize, rowOk}
+use Rattle.rows.specs.declared.Kind.{Kind}
+use Rattle.rows.specs.declared.Kind.the-variants.{Periods, Zones, Lines, Steps, Blocks}
+use Rattle.reader.specs.Reader.{GoodRows}
+use Rattle.reader.specs.Chain.{then-clean}
+use Rattle.day.specs.Chain.{fromZones, fromLines, fromSteps, fromBlocks}
+use Rattle.day.specs.Day.{periods, zones, zonesPart, linesPart, stepsPart, blocksPart, endPart, counts, dayNumbers, dayStages, dayFile}
+use Rattle.day.specs.declared.Counts.{Counts}
+use Rattle.day.specs.declared.DayFile.{DayFile}
+use Rattle.day.specs.declared.DayFile.the-variants.{Good, Bad}
+
+-- ---- the guarantees
+
+pub record GoodDay (day : List ℕ) : Type 0 where
+  pub periods-good : GoodRows Periods 1 mostPeriods 0 0 day
+  pub zones-good : GoodRows Zones 1 mostZones (periods day) 0 (zonesPart day)
+  pub lines-good : GoodRows Lines 0 mostLines (periods day) (zones day) (linesPart day)
+  pub steps-good : GoodRows Steps 0 mostSteps (periods day) (zones day) (stepsPart day)
+  pub blocks-good : GoodRows Blocks 0 mostBlocks (periods day) (zones day) (blocksPart day)
+  pub no-more : length (endPart day) ≡ 0
+
+-- the bytes of a day file, by its counts
+abbrev pub dayLength : Counts → ℕ
+dayLength c =
+    2 + 8 * c .periods
+    + (2 + 2 * c .zones)
+    + (2 + (2 + 8 * c .periods) * c .lines)
+    + (2 + 12 * c .steps)
+    + (2 + (8 + 4 * c .periods) * c .blocks)
+
+-- ---- where all stages are clean
+
+pub day-clean : (day : List ℕ) → Means (dayStages day) Clean ↔ GoodDay day
+unfolding dayStages
+day-clean day =
+    let h = periods day in
+    let z = zones day in
+    let c1 = then-clean dayNumbers 1 Periods 1 mostPeriods 0 0 day (fromZones h (zonesPart day)) in
+    let c2 = then-clean dayNumbers 2 Zones 1 mostZones h 0 (zonesPart day) (fromLines h z (linesPart day)) in
+    let c3 = then-clean dayNumbers 3 Lines 0 mostLines h z (linesPart day) (fromSteps h z (stepsPart day)) in
+    let c4 = then-clean dayNumbers 4 Steps 0 mostSteps h z (stepsPart day) (fromBlocks h z (blocksPart day)) in
+    let c5 = then-clean dayNumbers 5 Blocks 0 mostBlocks h z (blocksPart day) (ended 4 (endPart day)) in
+    let e = ended-clean 4 (endPart day) in
+    (
+      λ m.
+        let m1 = c1 .0 m in
+        let m2 = c2 .0 (m1 .1) in
+        let m3 = c3 .0 (m2 .1) in
+        let m4 = c4 .0 (m3 .1) in
+        let m5 = c5 .0 (m4 .1) in
+        record {
+          periods-good = m1 .0;
+          zones-good = m2 .0;
+          lines-good = m3 .0;
+          steps-good = m4 .0;
+          blocks-good = m5 .0;
+          no-more = e .0 (m5 .1);
+        },
+      λ g. c1 .1 (g .periods-good, c2 .1 (g .zones-good, c3 .1 (g .lines-good, c4 .1 (g .steps-good, c5 .1 (g .blocks-good, e .1 (g .no-more)))))),
+    )
+
+-- ---- the two answers
+
+pub faultOf : DayFile → Fault
+faultOf (Good c) = Clean
+faultOf (Bad k p) = Broken k p
+
+not-good : {c : Counts} (k : ℕ) (p : Place) → ¬ (Bad k p ≡ Good c)
+not-good k p e = let z : _≡_ {A = ℕ} 0 1 = cc in omega arith
+
+fault-of : (k : ℕ) (p : Place) → faultOf (Bad k p) ≡ Broken k p
+unfolding faultOf
+fault-of k p = refl
+
+-- a day file reads without fault just where it keeps the guarantees
+pub day-good : (day : List ℕ) → (dayFile day ≡ Good (counts day)) ↔ GoodDay day
+day-good day =
+    let a = answer-good (Good (counts day)) Bad not-good faultOf fault-of (dayStages day) in
+    (λ e. day-clean day .0 (a .0 e), λ g. a .1 (day-clean day .1 g))
+
+-- it is refused with a number and a place just where that is its first fault
+pub day-bad : (day : List ℕ) (k : ℕ) (p : Place) → (dayFile day ≡ Bad k p) ↔ Means (dayStages day) (Broken k p)
+day-bad day k p = answer-bad (Good (counts day)) Bad not-good faultOf fault-of (dayStages day) k p
+
+-- the counts of a good answer are the file's
+pub good-counts : (day : List ℕ) (c : Counts) → dayFile day ≡ Good c → (counts day ≡ c) × GoodDay day
+good-counts day c e = by (firstFault (dayStages day)) refl e
+  where
+    by : (f : Fault) → firstFault (dayStages day) ≡ f → answer (Good (counts day)) Bad f ≡ Good c → (counts day ≡ c) × GoodDay day
+    by Clean q r = (cc, day-good day .0 (rw q))
+    by (Broken k p) q r = absurd (not-good k p r)
+
+-- ---- how long a good day file is
+
+added : {d r1 r2 r3 r4 r5 : ℕ} (a1 a2 a3 a4 a5 : ℕ) → d ≡ a1 + r1 → r1 ≡ a2 + r2 → r2 ≡ a3 + r3 → r3 ≡ a4 + r4 → r4 ≡ a5 + r5 → r5 ≡ 0 →
+    d ≡ a1 + a2 + a3 + a4 + a5
+added a1 a2 a3 a4 a5 e1 e2 e3 e4 e5 e = omega arith
+
+pub day-length : (day : List ℕ) → GoodDay day → length day ≡ dayLength (counts day)
+day-length day g =
+    let h = periods day in
+    added
+    (2 + rowSize Periods 0 * h)
+    (2 + rowSize Zones h * zones day)
+    (2 + rowSize Lines h * count (linesPart day))
+    (2 + rowSize Steps h * count (stepsPart day))
+    (2 + rowSize Blocks h * count (blocksPart day))
+    (part-length (rowSize Periods 0) day (g .periods-good .room))
+    (part-length (rowSize Zones h) (zonesPart day) (g .zones-good .room))
+    (part-length (rowSize Lines h) (linesPart day) (g .lines-good .room))
+    (part-length (rowSize Steps h) (stepsPart day) (g .steps-good .room))
+    (part-length (rowSize Blocks h) (blocksPart day) (g .blocks-good .room))
+    (g .no-more)
+
+within : (h z l n k : ℕ) → h ≤ mostPeriods → z ≤ mostZones → l ≤ mostLines → n ≤ mostSteps → k ≤ mostBlocks →
+    2 + 8 * h + (2 + 2 * z) + (2 + (2 + 8 * h) * l) + (2 + 12 * n) + (2 + (8 + 4 * h) * k) ≤ 38258
+within h z l n k a b c d e =
+    let lines : (2 + 8 * h) * l ≤ 202 * 16 = mul-le-mul {n₂ = 202} {m₂ = 16} (omega arith) (omega arith) in
+    let blocks : (8 + 4 * h) * k ≤ 108 * 100 = mul-le-mul {n₂ = 108} {m₂ = 100} (omega arith) (omega arith) in
+    omega arith
+
+-- the largest day file
+pub day-longest : (day : List ℕ) → GoodDay day → length day ≤ 38258
+day-longest day g =
+    rw (day-length day g)
+    (within (periods day) (zones day) (count (linesPart day)) (count (stepsPart day)) (count (blocksPart day))
+    (g .periods-good .at-most) (g .zones-good .at-most) (g .lines-good .at-most) (g .steps-good .at-most) (g .blocks-good .at-most))
