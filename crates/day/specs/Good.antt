@@ -43,6 +43,27 @@ dayLength c =
     + (2 + 12 * c .steps)
     + (2 + (8 + 4 * c .periods) * c .blocks)
 
+-- counts within their limits
+pub record InLimits (c : Counts) : Type 0 where
+  pub periods-least : 1 ≤ c .periods
+  pub periods-most : c .periods ≤ mostPeriods
+  pub zones-least : 1 ≤ c .zones
+  pub zones-most : c .zones ≤ mostZones
+  pub lines-most : c .lines ≤ mostLines
+  pub steps-most : c .steps ≤ mostSteps
+  pub blocks-most : c .blocks ≤ mostBlocks
+
+pub in-limits : {day : List ℕ} → GoodDay day → InLimits (counts day)
+in-limits g = record {
+  periods-least = g .periods-good .at-least;
+  periods-most = g .periods-good .at-most;
+  zones-least = g .zones-good .at-least;
+  zones-most = g .zones-good .at-most;
+  lines-most = g .lines-good .at-most;
+  steps-most = g .steps-good .at-most;
+  blocks-most = g .blocks-good .at-most;
+}
+
 -- ---- where all stages are clean
 
 pub day-clean : (day : List ℕ) → Means (dayStages day) Clean ↔ GoodDay day
@@ -127,16 +148,12 @@ day-length day g =
     (part-length (rowSize Blocks h) (blocksPart day) (g .blocks-good .room))
     (g .no-more)
 
-within : (h z l n k : ℕ) → h ≤ mostPeriods → z ≤ mostZones → l ≤ mostLines → n ≤ mostSteps → k ≤ mostBlocks →
-    2 + 8 * h + (2 + 2 * z) + (2 + (2 + 8 * h) * l) + (2 + 12 * n) + (2 + (8 + 4 * h) * k) ≤ 38258
-within h z l n k a b c d e =
-    let lines : (2 + 8 * h) * l ≤ 202 * 16 = mul-le-mul {n₂ = 202} {m₂ = 16} (omega arith) (omega arith) in
-    let blocks : (8 + 4 * h) * k ≤ 108 * 100 = mul-le-mul {n₂ = 108} {m₂ = 100} (omega arith) (omega arith) in
+within : (c : Counts) → InLimits c → dayLength c ≤ 38258
+within c l =
+    let lines : (2 + 8 * c .periods) * c .lines ≤ 202 * 16 = mul-le-mul {n₂ = 202} {m₂ = 16} (omega arith) (omega arith) in
+    let blocks : (8 + 4 * c .periods) * c .blocks ≤ 108 * 100 = mul-le-mul {n₂ = 108} {m₂ = 100} (omega arith) (omega arith) in
     omega arith
 
 -- the largest day file
 pub day-longest : (day : List ℕ) → GoodDay day → length day ≤ 38258
-day-longest day g =
-    rw (day-length day g)
-    (within (periods day) (zones day) (count (linesPart day)) (count (stepsPart day)) (count (blocksPart day))
-    (g .periods-good .at-most) (g .zones-good .at-most) (g .lines-good .at-most) (g .steps-good .at-most) (g .blocks-good .at-most))
+day-longest day g = rw (day-length day g) (within (counts day) (in-limits g))

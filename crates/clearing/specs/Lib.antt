@@ -1,0 +1,4 @@
+-- What is meant: the clearing file's parts and its stages, refusals 5 to 8, and both files read together.
+pub mod Clearing
+-- The same stages from each section on, as the readers hand on what is left of the file.
+pub mod Chain
