@@ -1,0 +1,55 @@
+-- What the look-up's reading of the day file answers, and what follows for the part and the refusal. Assumes nothing.
+use Prim.Native.Nat.{ℕ}
+use native.Mathlib.Omega.{arith}
+use mathlib.Core.Path.{_≡_, refl, sym, ap, subst, _∙_}
+use mathlib.Core.Logic.{_↔_}
+use mathlib.Core.List.{List, []}
+use Rattle.stages.specs.Stage.{Means, means, firstFault, answer}
+use Rattle.stages.specs.declared.Place.{Place}
+use Rattle.stages.specs.declared.Fault.{Fault}
+use Rattle.stages.specs.declared.Fault.the-variants.{Broken, Clean}
+use Rattle.day.specs.declared.Counts.{Counts}
+use Rattle.day.specs.declared.DayFile.{DayFile}
+use Rattle.day.specs.declared.DayFile.the-variants.{Good, Bad}
+use Rattle.day.specs.Day.{counts, dayStages}
+use Rattle.day.specs.Good.{GoodDay, day-clean}
+use Rattle.parts.specs.Of.{OfDay}
+use Rattle.lookup.specs.LookUp.{rowsOf, lookUpStages, lookUp}
+
+abbrev pub dayFileFor : ℕ → List ℕ → DayFile
+dayFileFor section day = answer (Good (counts day)) Bad (firstFault (lookUpStages section day))
+
+bad-good : {A : Type 0} {k : ℕ} {p : Place} {c : Counts} → Bad k p ≡ Good c → A
+bad-good e = let z : _≡_ {A = ℕ} 0 1 = cc in absurd (omega arith)
+
+bad-is : (c : Counts) {k : ℕ} {p : Place} (f : Fault) → answer (Good c) Bad f ≡ Bad k p → f ≡ Broken k p
+bad-is c (Broken l q) e = cc
+bad-is c Clean e = bad-good (sym e)
+
+good-is : {c d : Counts} (f : Fault) → answer (Good c) Bad f ≡ Good d → (f ≡ Clean) × (c ≡ d)
+good-is (Broken l q) e = bad-good e
+good-is Clean e = (refl, cc)
+
+module _ (section : ℕ) (day : List ℕ) where
+  pub refused-for : {k : ℕ} {p : Place} → dayFileFor section day ≡ Bad k p → firstFault (lookUpStages section day) ≡ Broken k p
+  refused-for e = bad-is (counts day) (firstFault (lookUpStages section day)) e
+
+  pub clean-for : {c : Counts} → dayFileFor section day ≡ Good c → firstFault (lookUpStages section day) ≡ Clean
+  clean-for e = good-is (firstFault (lookUpStages section day)) e .0
+
+  -- a good answer is that of a day file that reads without fault, with its counts
+  pub of-day : {c : Counts} → dayFileFor section day ≡ Good c → OfDay day c
+  of-day e = record {
+    good = day-clean day .0 (means (lookUpStages section day) Clean .0 (clean-for e) .1);
+    counted = good-is (firstFault (lookUpStages section day)) e .1;
+  }
+
+  -- the part
+  pub refused-part : {k : ℕ} {p : Place} → dayFileFor section day ≡ Bad k p → [] ≡ lookUp section day
+  refused-part e = rw (refused-for e)
+
+  pub found-part : {c : Counts} {x : List ℕ} → dayFileFor section day ≡ Good c → x ≡ rowsOf section day → x ≡ lookUp section day
+  found-part e q = rw (clean-for e) q
+
+pub by-number : (day : List ℕ) {s k : ℕ} {x : List ℕ} → s ≡ k → x ≡ rowsOf k day → x ≡ rowsOf s day
+by-number day e q = q ∙ ap (λ (n : ℕ). rowsOf n day) (sym e)

@@ -1,0 +1,157 @@
+-- What a row that obeys its rule guarantees, as sentences: the tests of its fields, read as facts. Assumes nothing.
+use Prim.Native.Nat.{ℕ, _+_, _*_, _/_, _%_, _<_, _≤_}
+use native.Mathlib.Nat.{eq-or-lt-of-le}
+use native.Mathlib.Omega.{arith}
+use mathlib.Core.Path.{_≡_, refl}
+use mathlib.Core.Logic.{_↔_, ⊎-elim}
+use mathlib.Core.Bool.{Bool, true, false, not}
+use mathlib.Core.List.{List}
+use lib.Dec.{leb, ltb, eqb}
+use lib.IntN.{ℤ, pos, negℤ}
+use borrow.Author.Tests.{leb-true, leb-false, le-leb, lt-leb, ltb-true, lt-ltb, eqb-true, eq-eqb}
+use Rattle.wire.specs.Bytes.{u8At, u32At, i32At}
+use Rattle.whole.specs.Whole.{_≼_}
+use Rattle.whole.specs.Ring.{leZ-true}
+use Rattle.stages.specs.First.{every, Says, firstBad, foundNothing, says, every-first, every-is, both, apart}
+use Rattle.stages.specs.declared.Found.{Found}
+use Rattle.stages.specs.declared.Found.the-variants.{At, Nothing}
+use Rattle.rows.specs.Limits.{isPrice, isFlow}
+use Rattle.rows.specs.Laws.{line-split, block-split}
+use Rattle.rows.specs.Rows.{rowStart, floor, ceiling, code, codeBefore, from, to, forward, back, stepZone, stepPeriod, stepSide, stepSpare, stepPrice, stepQuantity, blockZone, blockSide, blockSpare, blockPrice, blockQuantity, rowOk}
+use Rattle.rows.specs.declared.Kind.the-variants.{Periods, Zones, Lines, Steps, Blocks, Prices, Flows, Volumes, Taken}
+
+-- ---- what is meant
+
+pub record IsPrice (p : ℤ) : Type 0 where
+  pub low : negℤ (pos 1000000) ≼ p
+  pub high : p ≼ pos 1000000
+
+pub record IsFlow (f : ℤ) : Type 0 where
+  pub low : negℤ (pos 1000000) ≼ f
+  pub high : f ≼ pos 1000000
+
+pub record PeriodRow (part : List ℕ) (at : ℕ) : Type 0 where
+  pub floor-is : IsPrice (floor part at)
+  pub ceiling-is : IsPrice (ceiling part at)
+  pub in-order : floor part at ≼ ceiling part at
+
+pub record ZoneRow (part : List ℕ) (i at : ℕ) : Type 0 where
+  pub at-least : 1 ≤ code part at
+  pub above : codeBefore part i at < code part at
+
+pub record LineRow (periods zones : ℕ) (part : List ℕ) (at : ℕ) : Type 0 where
+  pub from-is : from part at < zones
+  pub to-is : to part at < zones
+  pub different : ¬ (to part at ≡ from part at)
+  pub forward-is : (period : ℕ) → period < periods → forward part at period ≤ 1000000
+  pub back-is : (period : ℕ) → period < periods → back part at period ≤ 1000000
+
+pub record StepRow (periods zones : ℕ) (part : List ℕ) (at : ℕ) : Type 0 where
+  pub zone-is : stepZone part at < zones
+  pub period-is : stepPeriod part at < periods
+  pub side-is : stepSide part at ≤ 1
+  pub spare-is : stepSpare part at ≡ 0
+  pub price-is : IsPrice (stepPrice part at)
+  pub at-least : 1 ≤ stepQuantity part at
+  pub at-most : stepQuantity part at ≤ 1000000
+
+pub record BlockRow (periods zones : ℕ) (part : List ℕ) (at : ℕ) : Type 0 where
+  pub zone-is : blockZone part at < zones
+  pub side-is : blockSide part at ≤ 1
+  pub spare-is : blockSpare part at ≡ 0
+  pub price-is : IsPrice (blockPrice part at)
+  pub quantity-is : (period : ℕ) → period < periods → blockQuantity part at period ≤ 1000000
+  -- a period with a quantity above 0
+  pub some-period : ℕ
+  pub some-below : some-period < periods
+  pub some-above : 0 < blockQuantity part at some-period
+
+-- ---- a test's answer, as a fact
+
+leb-is : (a b : ℕ) → (leb a b ≡ true) ↔ (a ≤ b)
+leb-is a b = (leb-true a b, le-leb a b)
+
+leb-false-is : (a b : ℕ) → (leb a b ≡ false) ↔ (b < a)
+leb-false-is a b = (leb-false a b, lt-leb a b)
+
+ltb-is : (a b : ℕ) → (ltb a b ≡ true) ↔ (a < b)
+ltb-is a b = (ltb-true a b, lt-ltb a b)
+
+eqb-is : (a b : ℕ) → (eqb a b ≡ true) ↔ (a ≡ b)
+eqb-is a b = (eqb-true a b, eq-eqb a b)
+
+not-is : (b : Bool) → (not b ≡ true) ↔ ¬ (b ≡ true)
+not-is true = (λ e _. apart e refl, λ n. absurd (n refl))
+not-is false = (λ _ e. apart e refl, λ _. refl)
+
+not-every-is : (n : ℕ) (t : ℕ → Bool) → (not (every n t) ≡ true) ↔ ((j : ℕ) × ((j < n) × (t j ≡ false)))
+not-every-is n t = (
+  λ e. by (firstBad n t) (says n t) (rw (every-first n t) at e),
+  λ h. not-is (every n t) .1 (λ e. apart (every-is n t .0 e (h .0) (h .1 .0)) (h .1 .1)),
+)
+  where
+    by : (f : Found) → Says n t f → not (foundNothing f) ≡ true → (j : ℕ) × ((j < n) × (t j ≡ false))
+    by (At k) s e = (k, (s .0, s .1 .0))
+    by Nothing s e = apart e refl
+
+price-is : (p : ℤ) → (isPrice p ≡ true) ↔ IsPrice p
+price-is p = simp (both, leZ-true) (λ h. search, λ h. search)
+
+flow-is : (f : ℤ) → (isFlow f ≡ true) ↔ IsFlow f
+flow-is f = simp (both, leZ-true) (λ h. search, λ h. search)
+
+-- simp takes the first that fits, so the more special stand first
+ruleset tests = (price-is, not-every-is, both, every-is, leb-is, leb-false-is, ltb-is, eqb-is, not-is, leZ-true)
+
+-- the places of a line's capacities are those of its capacities forward and back
+forward-and-back : (P : ℕ → Type 0) (at n : ℕ) →
+    ((k : ℕ) → k < 2 * n → P (at + 2 + 4 * k)) ↔ (((h : ℕ) → h < n → P (at + 2 + 8 * h)) × ((h : ℕ) → h < n → P (at + 6 + 8 * h)))
+forward-and-back P at n = (
+  λ f. (
+    λ h l. let e : at + 2 + 4 * (2 * h) ≡ at + 2 + 8 * h = omega arith in rw e at (f (2 * h) (omega arith)),
+    λ h l. let e : at + 2 + 4 * (2 * h + 1) ≡ at + 6 + 8 * h = omega arith in rw e at (f (2 * h + 1) (omega arith)),
+  ),
+  λ g k l. ⊎-elim
+    (λ (z : 0 ≡ k % 2). let e : at + 2 + 8 * (k / 2) ≡ at + 2 + 4 * k = omega arith in rw e at (g .0 (k / 2) (omega arith)))
+    (λ (z : 0 < k % 2). let e : at + 6 + 8 * (k / 2) ≡ at + 2 + 4 * k = omega arith in rw e at (g .1 (k / 2) (omega arith)))
+    (eq-or-lt-of-le (omega arith)),
+)
+
+-- ---- the tests are the sentences
+
+module _ (periods zones : ℕ) (part : List ℕ) (i : ℕ) where
+  pub period-row : (rowOk Periods periods zones part i ≡ true) ↔ PeriodRow part (rowStart Periods periods i)
+  unfolding rowOk
+  period-row = simp tests (λ h. search, λ h. search)
+
+  pub zone-row : (rowOk Zones periods zones part i ≡ true) ↔ ZoneRow part i (rowStart Zones periods i)
+  unfolding rowOk
+  zone-row = simp tests (λ h. search, λ h. search)
+
+  pub line-row : (rowOk Lines periods zones part i ≡ true) ↔ LineRow periods zones part (rowStart Lines periods i)
+  unfolding rowOk
+  line-row = simp (line-split, tests, forward-and-back (λ place. u32At part place ≤ 1000000)) (λ h. search, λ h. search)
+
+  pub step-row : (rowOk Steps periods zones part i ≡ true) ↔ StepRow periods zones part (rowStart Steps periods i)
+  unfolding rowOk
+  step-row = simp tests (λ h. search, λ h. search)
+
+  pub block-row : (rowOk Blocks periods zones part i ≡ true) ↔ BlockRow periods zones part (rowStart Blocks periods i)
+  unfolding rowOk
+  block-row = simp (block-split, tests) (λ h. search, λ h. (search, (h .some-period, (h .some-below, h .some-above))))
+
+  pub price-row : (rowOk Prices periods zones part i ≡ true) ↔ IsPrice (i32At part (rowStart Prices periods i))
+  unfolding rowOk
+  price-row = price-is _
+
+  pub flow-row : (rowOk Flows periods zones part i ≡ true) ↔ IsFlow (i32At part (rowStart Flows periods i))
+  unfolding rowOk
+  flow-row = flow-is _
+
+  pub volume-row : (rowOk Volumes periods zones part i ≡ true) ↔ (u32At part (rowStart Volumes periods i) ≤ 1000000)
+  unfolding rowOk
+  volume-row = leb-is _ _
+
+  pub taken-row : (rowOk Taken periods zones part i ≡ true) ↔ (u8At part (rowStart Taken periods i) ≤ 1)
+  unfolding rowOk
+  taken-row = leb-is _ _
