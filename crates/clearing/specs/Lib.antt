@@ -2,3 +2,5 @@
 pub mod Clearing
 -- The same stages from each section on, as the readers hand on what is left of the file.
 pub mod Chain
+-- What two files that read without fault guarantee, and what the reader's two answers mean.
+pub mod Good

@@ -1,0 +1,136 @@
+-- What two files that read without fault guarantee, and what the reader's two answers mean. Assumes nothing.
+use Prim.Native.Nat.{ℕ, _+_, _*_, _≤_}
+use native.Mathlib.Nat.{mul-le-mul, le-antisymm}
+use native.Mathlib.Omega.{arith}
+use mathlib.Core.Path.{_≡_, refl, _∙_}
+use mathlib.Core.Logic.{_↔_}
+use mathlib.Core.List.{List}
+use lib.ListN.{length}
+use Rattle.stages.specs.Stage.{Means, clean-++, firstFault, answer, answer-good, answer-bad}
+use Rattle.stages.specs.declared.Place.{Place}
+use Rattle.stages.specs.declared.Fault.{Fault}
+use Rattle.stages.specs.declared.Fault.the-variants.{Broken, Clean}
+use Rattle.sections.specs.Section.{count, after, ended}
+use Rattle.sections.specs.Good.{ended-clean, part-length}
+use Rattle.rows.specs.Rows.{rowSize}
+use Rattle.rows.specs.declared.Kind.{Kind}
+use Rattle.rows.specs.declared.Kind.the-variants.{Prices, Flows, Volumes, Taken}
+use Rattle.reader.specs.Reader.{GoodRows}
+use Rattle.reader.specs.Chain.{then-clean}
+use Rattle.day.specs.declared.Counts.{Counts}
+use Rattle.day.specs.Day.{counts, dayStages}
+use Rattle.day.specs.Good.{GoodDay, InLimits, in-limits, day-clean}
+use Rattle.clearing.specs.Clearing.{flowsPart, volumesPart, takenPart, endPart, clearingNumbers, clearingStages, fileStages, files}
+use Rattle.clearing.specs.Chain.{fromFlows, fromVolumes, fromTaken}
+use Rattle.clearing.specs.declared.Files.{Files}
+use Rattle.clearing.specs.declared.Files.the-variants.{Good, Bad}
+
+-- ---- the guarantees
+
+-- a section with just as many rows as the day file asks
+abbrev pub Asked : Kind → ℕ → List ℕ → Type 0
+Asked kind asked part = GoodRows kind asked asked 0 0 part
+
+pub record GoodClearing (c : Counts) (clearing : List ℕ) : Type 0 where
+  pub prices-good : Asked Prices (c .zones * c .periods) clearing
+  pub flows-good : Asked Flows (c .lines * c .periods) (flowsPart clearing)
+  pub volumes-good : Asked Volumes (c .steps) (volumesPart clearing)
+  pub taken-good : Asked Taken (c .blocks) (takenPart clearing)
+  pub no-more : length (endPart clearing) ≡ 0
+
+-- each count is the one that is asked
+pub asked-is : (kind : Kind) {asked : ℕ} {part : List ℕ} → Asked kind asked part → count part ≡ asked
+asked-is kind g = le-antisymm (g .at-most) (g .at-least)
+
+-- the bytes of a clearing file, by the day's counts
+abbrev pub clearingLength : Counts → ℕ
+clearingLength c = 2 + 4 * (c .zones * c .periods) + (2 + 4 * (c .lines * c .periods)) + (2 + 4 * c .steps) + (2 + 1 * c .blocks)
+
+-- ---- where all stages are clean
+
+pub clearing-clean : (c : Counts) (clearing : List ℕ) → Means (clearingStages c clearing) Clean ↔ GoodClearing c clearing
+unfolding clearingStages
+clearing-clean c clearing =
+    let p = c .zones * c .periods in
+    let f = c .lines * c .periods in
+    let c1 = then-clean clearingNumbers 1 Prices p p 0 0 clearing (fromFlows c (flowsPart clearing)) in
+    let c2 = then-clean clearingNumbers 2 Flows f f 0 0 (flowsPart clearing) (fromVolumes c (volumesPart clearing)) in
+    let c3 = then-clean clearingNumbers 3 Volumes (c .steps) (c .steps) 0 0 (volumesPart clearing) (fromTaken c (takenPart clearing)) in
+    let c4 = then-clean clearingNumbers 4 Taken (c .blocks) (c .blocks) 0 0 (takenPart clearing) (ended 8 (endPart clearing)) in
+    let e = ended-clean 8 (endPart clearing) in
+    (
+      λ m.
+        let m1 = c1 .0 m in
+        let m2 = c2 .0 (m1 .1) in
+        let m3 = c3 .0 (m2 .1) in
+        let m4 = c4 .0 (m3 .1) in
+        record { prices-good = m1 .0; flows-good = m2 .0; volumes-good = m3 .0; taken-good = m4 .0; no-more = e .0 (m4 .1) },
+      λ g. c1 .1 (g .prices-good, c2 .1 (g .flows-good, c3 .1 (g .volumes-good, c4 .1 (g .taken-good, e .1 (g .no-more))))),
+    )
+
+pub files-clean : (day clearing : List ℕ) → Means (fileStages day clearing) Clean ↔ (GoodDay day × GoodClearing (counts day) clearing)
+files-clean day clearing =
+    let b = clean-++ (dayStages day) (clearingStages (counts day) clearing) in
+    let d = day-clean day in
+    let c = clearing-clean (counts day) clearing in
+    (λ m. (d .0 (b .0 m .0), c .0 (b .0 m .1)), λ g. b .1 (d .1 (g .0), c .1 (g .1)))
+
+-- ---- the two answers
+
+-- the number and the place of each
+abbrev pub faultOf : Files → Fault
+faultOf (Good c) = Clean
+faultOf (Bad k p) = Broken k p
+
+not-good : {c : Counts} (k : ℕ) (p : Place) → ¬ (Bad k p ≡ Good c)
+not-good k p e = let z : _≡_ {A = ℕ} 0 1 = cc in omega arith
+
+-- two files read without fault just where they keep the guarantees
+pub files-good : (day clearing : List ℕ) → (files day clearing ≡ Good (counts day)) ↔ (GoodDay day × GoodClearing (counts day) clearing)
+files-good day clearing =
+    let a = answer-good (Good (counts day)) Bad not-good faultOf (λ k p. refl) (fileStages day clearing) in
+    let c = files-clean day clearing in
+    (λ e. c .0 (a .0 e), λ g. a .1 (c .1 g))
+
+-- they are refused with a number and a place just where that is their first fault
+pub files-bad : (day clearing : List ℕ) (k : ℕ) (p : Place) → (files day clearing ≡ Bad k p) ↔ Means (fileStages day clearing) (Broken k p)
+files-bad day clearing k p = answer-bad (Good (counts day)) Bad not-good faultOf (λ k p. refl) (fileStages day clearing) k p
+
+-- the number and the place of the answer are those of the first fault
+pub files-fault : (day clearing : List ℕ) → faultOf (files day clearing) ≡ firstFault (fileStages day clearing)
+files-fault day clearing = by (firstFault (fileStages day clearing))
+  where
+    by : (f : Fault) → faultOf (answer (Good (counts day)) Bad f) ≡ f
+    by Clean = refl
+    by (Broken k p) = refl
+
+-- ---- how long a good clearing file is
+
+added : {d r1 r2 r3 r4 : ℕ} (a1 a2 a3 a4 : ℕ) → d ≡ a1 + r1 → r1 ≡ a2 + r2 → r2 ≡ a3 + r3 → r3 ≡ a4 + r4 → r4 ≡ 0 → d ≡ a1 + a2 + a3 + a4
+added a1 a2 a3 a4 e1 e2 e3 e4 e = omega arith
+
+part-is : (kind : Kind) {asked : ℕ} {part : List ℕ} → Asked kind asked part → length part ≡ 2 + rowSize kind 0 * asked + length (after (rowSize kind 0) part)
+part-is kind {asked} {part} g = part-length (rowSize kind 0) part (g .room) ∙ rw (asked-is kind g)
+
+pub clearing-length : (c : Counts) (clearing : List ℕ) → GoodClearing c clearing → length clearing ≡ clearingLength c
+clearing-length c clearing g =
+    added
+    (2 + 4 * (c .zones * c .periods))
+    (2 + 4 * (c .lines * c .periods))
+    (2 + 4 * c .steps)
+    (2 + 1 * c .blocks)
+    (part-is Prices (g .prices-good))
+    (part-is Flows (g .flows-good))
+    (part-is Volumes (g .volumes-good))
+    (part-is Taken (g .taken-good))
+    (g .no-more)
+
+within : (c : Counts) → InLimits c → clearingLength c ≤ 10508
+within c l =
+    let prices : c .zones * c .periods ≤ 8 * 25 = mul-le-mul {n₂ = 8} {m₂ = 25} (omega arith) (omega arith) in
+    let flows : c .lines * c .periods ≤ 16 * 25 = mul-le-mul {n₂ = 16} {m₂ = 25} (omega arith) (omega arith) in
+    omega arith
+
+-- the largest clearing file
+pub clearing-longest : (day clearing : List ℕ) → GoodDay day → GoodClearing (counts day) clearing → length clearing ≤ 10508
+clearing-longest day clearing d g = rw (clearing-length (counts day) clearing g) (within (counts day) (in-limits d))
