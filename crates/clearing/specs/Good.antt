@@ -57,14 +57,13 @@ clearing-clean c clearing =
     let c2 = then-clean clearingNumbers 2 Flows f f 0 0 (flowsPart clearing) (fromVolumes c (volumesPart clearing)) in
     let c3 = then-clean clearingNumbers 3 Volumes (c .steps) (c .steps) 0 0 (volumesPart clearing) (fromTaken c (takenPart clearing)) in
     let c4 = then-clean clearingNumbers 4 Taken (c .blocks) (c .blocks) 0 0 (takenPart clearing) (ended 8 (endPart clearing)) in
-    let e = ended-clean 8 (endPart clearing) in
-    (
+    let e = ended-clean 8 (endPart clearing) in (
       λ m.
-        let m1 = c1 .0 m in
-        let m2 = c2 .0 (m1 .1) in
-        let m3 = c3 .0 (m2 .1) in
-        let m4 = c4 .0 (m3 .1) in
-        record { prices-good = m1 .0; flows-good = m2 .0; volumes-good = m3 .0; taken-good = m4 .0; no-more = e .0 (m4 .1) },
+          let m1 = c1 .0 m in
+          let m2 = c2 .0 (m1 .1) in
+          let m3 = c3 .0 (m2 .1) in
+          let m4 = c4 .0 (m3 .1) in
+          record { prices-good = m1 .0; flows-good = m2 .0; volumes-good = m3 .0; taken-good = m4 .0; no-more = e .0 (m4 .1) },
       λ g. c1 .1 (g .prices-good, c2 .1 (g .flows-good, c3 .1 (g .volumes-good, c4 .1 (g .taken-good, e .1 (g .no-more))))),
     )
 

@@ -21,7 +21,13 @@ pub enum Files {
 fn read_section(number: usize, kind: Kind, asked: usize, part: &[u8]) -> Reading
     ensures { λ r. ⌜ r ≡ readingAt clearingNumbers number kind asked asked 0 0 (now (part .entry)) ⌝ }
 {
-    sections::named(reader::read_rows(kind, asked, asked, 0, 0, part), number, 5, 6, 7)
+    sections::named(
+        reader::read_rows(kind, asked, asked, 0, 0, part),
+        number,
+        5,
+        6,
+        7,
+    )
 }
 
 // ---- the sections one after the other: a fault returns at once, and what is left of the file is handed on

@@ -76,22 +76,21 @@ day-clean day =
     let c3 = then-clean dayNumbers 3 Lines 0 mostLines h z (linesPart day) (fromSteps h z (stepsPart day)) in
     let c4 = then-clean dayNumbers 4 Steps 0 mostSteps h z (stepsPart day) (fromBlocks h z (blocksPart day)) in
     let c5 = then-clean dayNumbers 5 Blocks 0 mostBlocks h z (blocksPart day) (ended 4 (endPart day)) in
-    let e = ended-clean 4 (endPart day) in
-    (
+    let e = ended-clean 4 (endPart day) in (
       λ m.
-        let m1 = c1 .0 m in
-        let m2 = c2 .0 (m1 .1) in
-        let m3 = c3 .0 (m2 .1) in
-        let m4 = c4 .0 (m3 .1) in
-        let m5 = c5 .0 (m4 .1) in
-        record {
-          periods-good = m1 .0;
-          zones-good = m2 .0;
-          lines-good = m3 .0;
-          steps-good = m4 .0;
-          blocks-good = m5 .0;
-          no-more = e .0 (m5 .1);
-        },
+          let m1 = c1 .0 m in
+          let m2 = c2 .0 (m1 .1) in
+          let m3 = c3 .0 (m2 .1) in
+          let m4 = c4 .0 (m3 .1) in
+          let m5 = c5 .0 (m4 .1) in
+          record {
+            periods-good = m1 .0;
+            zones-good = m2 .0;
+            lines-good = m3 .0;
+            steps-good = m4 .0;
+            blocks-good = m5 .0;
+            no-more = e .0 (m5 .1);
+          },
       λ g. c1 .1 (g .periods-good, c2 .1 (g .zones-good, c3 .1 (g .lines-good, c4 .1 (g .steps-good, c5 .1 (g .blocks-good, e .1 (g .no-more)))))),
     )
 

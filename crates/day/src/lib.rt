@@ -10,9 +10,13 @@ ghost use Rattle.day.specs.Day.{dayNumbers, dayFile};
 ghost use Rattle.day.specs.Chain.{countsZones, countsLines, countsSteps, countsBlocks, fileFrom, fromZones, fromLines, fromSteps, fromBlocks};
 
 const MOST_PERIODS: usize = 25;
+
 const MOST_ZONES: usize = 8;
+
 const MOST_LINES: usize = 16;
+
 const MOST_STEPS: usize = 2000;
+
 const MOST_BLOCKS: usize = 100;
 
 // How many rows each section has.
@@ -42,7 +46,13 @@ fn read_section(
     requires { ⌜ periods ≤ 25 ⌝ }
     ensures { λ r. ⌜ r ≡ readingAt dayNumbers number kind least most periods zones (now (part .entry)) ⌝ }
 {
-    sections::named(reader::read_rows(kind, least, most, periods, zones, part), number, 1, 2, 3)
+    sections::named(
+        reader::read_rows(kind, least, most, periods, zones, part),
+        number,
+        1,
+        2,
+        3,
+    )
 }
 
 // ---- the sections one after the other: a fault returns at once, and what is left of the file is handed on
@@ -51,7 +61,13 @@ fn from_end(part: &[u8], counts: Counts) -> DayFile
     ensures { λ r. ⌜ r ≡ fileFrom counts (ended 4 (now (part .entry))) ⌝ }
 {
     if 0 < part.len() {
-        return DayFile::Bad(4, Place { first: 0, second: 0 });
+        return DayFile::Bad(
+            4,
+            Place {
+                first: 0,
+                second: 0,
+            },
+        );
     }
     DayFile::Good(counts)
 }
@@ -82,7 +98,13 @@ fn from_steps(part: &[u8], periods: usize, zones: usize, lines: usize) -> DayFil
     match read_section(4, Kind::Steps, 0, MOST_STEPS, periods, zones, part) {
         Reading::Refused(k, p) => DayFile::Bad(k, p),
         Reading::Good(steps) => {
-            from_blocks(reader::rest(Kind::Steps, periods, part, steps), periods, zones, lines, steps)
+            from_blocks(
+                reader::rest(Kind::Steps, periods, part, steps),
+                periods,
+                zones,
+                lines,
+                steps,
+            )
         }
     }
 }
@@ -94,7 +116,12 @@ fn from_lines(part: &[u8], periods: usize, zones: usize) -> DayFile
     match read_section(3, Kind::Lines, 0, MOST_LINES, periods, zones, part) {
         Reading::Refused(k, p) => DayFile::Bad(k, p),
         Reading::Good(lines) => {
-            from_steps(reader::rest(Kind::Lines, periods, part, lines), periods, zones, lines)
+            from_steps(
+                reader::rest(Kind::Lines, periods, part, lines),
+                periods,
+                zones,
+                lines,
+            )
         }
     }
 }
@@ -105,7 +132,11 @@ fn from_zones(part: &[u8], periods: usize) -> DayFile
 {
     match read_section(2, Kind::Zones, 1, MOST_ZONES, periods, 0, part) {
         Reading::Refused(k, p) => DayFile::Bad(k, p),
-        Reading::Good(zones) => from_lines(reader::rest(Kind::Zones, periods, part, zones), periods, zones),
+        Reading::Good(zones) => from_lines(
+            reader::rest(Kind::Zones, periods, part, zones),
+            periods,
+            zones,
+        ),
     }
 }
 
@@ -115,6 +146,9 @@ pub fn read_day(file: &[u8]) -> DayFile
 {
     match read_section(1, Kind::Periods, 1, MOST_PERIODS, 0, 0, file) {
         Reading::Refused(k, p) => DayFile::Bad(k, p),
-        Reading::Good(periods) => from_zones(reader::rest(Kind::Periods, 0, file, periods), periods),
+        Reading::Good(periods) => from_zones(
+            reader::rest(Kind::Periods, 0, file, periods),
+            periods,
+        ),
     }
 }

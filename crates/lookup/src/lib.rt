@@ -28,16 +28,36 @@ fn named_rows<'a>(day: &'a [u8], section: usize, counts: Counts) -> &'a [u8]
         return rows_of(Kind::Periods, 0, day, counts.periods);
     }
     if section == 2 {
-        return rows_of(Kind::Zones, counts.periods, parts::zones_part(day, counts), counts.zones);
+        return rows_of(
+            Kind::Zones,
+            counts.periods,
+            parts::zones_part(day, counts),
+            counts.zones,
+        );
     }
     if section == 3 {
-        return rows_of(Kind::Lines, counts.periods, parts::lines_part(day, counts), counts.lines);
+        return rows_of(
+            Kind::Lines,
+            counts.periods,
+            parts::lines_part(day, counts),
+            counts.lines,
+        );
     }
     if section == 4 {
-        return rows_of(Kind::Steps, counts.periods, parts::steps_part(day, counts), counts.steps);
+        return rows_of(
+            Kind::Steps,
+            counts.periods,
+            parts::steps_part(day, counts),
+            counts.steps,
+        );
     }
     if section == 5 {
-        return rows_of(Kind::Blocks, counts.periods, parts::blocks_part(day, counts), counts.blocks);
+        return rows_of(
+            Kind::Blocks,
+            counts.periods,
+            parts::blocks_part(day, counts),
+            counts.blocks,
+        );
     }
     &day[..0]
 }

@@ -16,19 +16,34 @@ pub fn lines_part<'a>(day: &'a [u8], counts: Counts) -> &'a [u8]
     requires { ⌜ OfDay (now day) counts ⌝ }
     ensures { λ r. ⌜ now r ≡ linesPart (now (day .entry)) ⌝ }
 {
-    reader::rest(Kind::Zones, counts.periods, zones_part(day, counts), counts.zones)
+    reader::rest(
+        Kind::Zones,
+        counts.periods,
+        zones_part(day, counts),
+        counts.zones,
+    )
 }
 
 pub fn steps_part<'a>(day: &'a [u8], counts: Counts) -> &'a [u8]
     requires { ⌜ OfDay (now day) counts ⌝ }
     ensures { λ r. ⌜ now r ≡ stepsPart (now (day .entry)) ⌝ }
 {
-    reader::rest(Kind::Lines, counts.periods, lines_part(day, counts), counts.lines)
+    reader::rest(
+        Kind::Lines,
+        counts.periods,
+        lines_part(day, counts),
+        counts.lines,
+    )
 }
 
 pub fn blocks_part<'a>(day: &'a [u8], counts: Counts) -> &'a [u8]
     requires { ⌜ OfDay (now day) counts ⌝ }
     ensures { λ r. ⌜ now r ≡ blocksPart (now (day .entry)) ⌝ }
 {
-    reader::rest(Kind::Steps, counts.periods, steps_part(day, counts), counts.steps)
+    reader::rest(
+        Kind::Steps,
+        counts.periods,
+        steps_part(day, counts),
+        counts.steps,
+    )
 }

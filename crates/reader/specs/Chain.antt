@@ -47,6 +47,9 @@ module _ (numbers : Numbers) (number : ℕ) (kind : Kind) (least most periods zo
     pub handed-on : {n : ℕ} {left : List ℕ} {r : A} → readingAt numbers number kind least most periods zones part ≡ Good n →
         left ≡ after (rowSize kind periods) part → r ≡ answer (good left n) bad (firstFault (rest left n)) → r ≡ answered
     handed-on {n} e l q =
-        q ∙ rw (l, ← reading-read e .counted,
-        then-good numbers number least most (rowSize kind periods) (rowOk kind periods zones part) part
-        (rest (after (rowSize kind periods) part) (count part)) n e)
+        q ∙ rw (
+          l,
+          ← reading-read e .counted,
+          then-good numbers number least most (rowSize kind periods) (rowOk kind periods zones part) part
+              (rest (after (rowSize kind periods) part) (count part)) n e,
+        )

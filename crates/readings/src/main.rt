@@ -4,6 +4,8 @@ use clearing::Files;
 use libc::STDOUT_FILENO;
 use stages::Fault;
 use stages::Place;
+ghost use mathlib.Core.Path.{_≡_};
+ghost use lib.ListN.{length};
 ghost use Rattle.io.specs.Counts.{Counts};
 
 fn say(text: &[u8]) {
@@ -12,6 +14,16 @@ fn say(text: &[u8]) {
 
 fn say_number(n: usize) {
     io::print_decimal(STDOUT_FILENO, n as u64);
+}
+
+fn say_byte(x: u8) {
+    io::print_hex(STDOUT_FILENO, x as u64, 2);
+}
+
+fn say_bytes(s: &[u8]) {
+    for i in 0..s.len() {
+        say_byte(s[i]);
+    }
 }
 
 fn say_place(number: u8, place: Place) {
@@ -23,14 +35,6 @@ fn say_place(number: u8, place: Place) {
     say_number(place.second);
 }
 
-fn say_files(files: Files) {
-    match files {
-        Files::Bad(k, p) => say_place(k, p),
-        Files::Good(_) => say(b" 0 0 0"),
-    }
-    say(b"\n");
-}
-
 fn say_fault(fault: Fault) {
     match fault {
         Fault::Broken(k, p) => say_place(k, p),
@@ -38,66 +42,110 @@ fn say_fault(fault: Fault) {
     }
 }
 
-fn judged(name: &[u8], day: &[u8], clearing: &[u8]) {
+// ---- the readers on two files
+
+fn fault_of(files: Files) -> Fault {
+    match files {
+        Files::Bad(k, p) => Fault::Broken(k, p),
+        Files::Good(_) => Fault::Clean,
+    }
+}
+
+fn say_reading(day: &[u8], clearing: &[u8]) {
+    say_fault(fault_of(clearing::read_files(day, clearing)));
+    say(b"\n");
+}
+
+fn say_named(name: &[u8], day: &[u8], clearing: &[u8]) {
     say(name);
-    say_files(clearing::read_files(day, clearing));
+    say_reading(day, clearing);
 }
 
-fn day_cut(day: &[u8], clearing: &[u8]) {
-    for k in 0..day.len() {
-        say(b"day cut to ");
-        say_number(k);
-        say_files(clearing::read_files(&day[..k], clearing));
+// ---- the readers with one of the files changed
+
+// The two files' numbers, as the edits have them.
+const DAY: u8 = 0;
+
+const CLEARING: u8 = 1;
+
+fn say_file(file: u8) {
+    if file == DAY {
+        say(b"day");
+    } else {
+        say(b"clearing");
     }
 }
 
-fn clearing_cut(day: &[u8], clearing: &[u8]) {
-    for k in 0..clearing.len() {
-        say(b"clearing cut to ");
-        say_number(k);
-        say_files(clearing::read_files(day, &clearing[..k]));
+fn chosen<'a>(file: u8, day: &'a [u8], clearing: &'a [u8]) -> &'a [u8] {
+    if file == DAY { day } else { clearing }
+}
+
+fn say_changed(file: u8, changed: &[u8], day: &[u8], clearing: &[u8]) {
+    if file == DAY {
+        say_reading(changed, clearing);
+    } else {
+        say_reading(day, changed);
     }
 }
 
-fn say_edit(at: usize, value: u8) {
-    say_number(at);
+// The first n bytes, or all where there are fewer.
+fn first<'a>(s: &'a [u8], n: usize) -> &'a [u8] {
+    if n < s.len() { &s[0..n] } else { s }
+}
+
+fn say_cut<'a>(file: u8, n: usize, day: &'a [u8], clearing: &'a [u8]) {
+    say_file(file);
+    say(b" cut to ");
+    say_number(n);
+    say_changed(file, first(chosen(file, day, clearing), n), day, clearing);
+}
+
+fn say_cuts<'a>(file: u8, day: &'a [u8], clearing: &'a [u8]) {
+    for n in 0..chosen(file, day, clearing).len() {
+        say_cut(file, n, day, clearing);
+    }
+}
+
+// The byte at i of a file whose byte at `at` is altered, and 0 past its end.
+fn altered_byte(s: &[u8], at: usize, value: u8, i: usize) -> u8 {
+    if i == at {
+        return value;
+    }
+    if i < s.len() { s[i] } else { 0 }
+}
+
+// A file of at most 128 bytes with one of them altered.
+fn altered(s: &[u8], at: usize, value: u8) -> [u8; 128]
+    ensures { λ r. ⌜ 128 ≡ length r ⌝ }
+{
+    let mut room = [0u8; 128];
+    for i in 0..128 {
+        room[i] = altered_byte(s, at, value, i);
+    }
+    room
+}
+
+fn say_edit<'a>(file: u8, at: u8, value: u8, day: &'a [u8], clearing: &'a [u8]) {
+    say_file(file);
+    say(b" byte ");
+    say_number(at as usize);
     say(b" is ");
     say_number(value as usize);
+    let whole = chosen(file, day, clearing);
+    let room = altered(whole, at as usize, value);
+    say_changed(file, first(&room, whole.len()), day, clearing);
 }
 
-fn day_edited(day: &mut [u8], clearing: &[u8], at: usize, value: u8) {
-    if at < day.len() {
-        let old = day[at];
-        day[at] = value;
-        say(b"day byte ");
-        say_edit(at, value);
-        say_files(clearing::read_files(&day[..], clearing));
-        day[at] = old;
+// Each edit is three bytes: the file's number, the place, and the byte to put there.
+fn say_edits<'a>(edits: &[u8], day: &'a [u8], clearing: &'a [u8]) {
+    let mut rest = edits;
+    while 3 <= rest.len() {
+        say_edit(rest[0], rest[1], rest[2], day, clearing);
+        rest = &rest[3..];
     }
 }
 
-fn clearing_edited(day: &[u8], clearing: &mut [u8], at: usize, value: u8) {
-    if at < clearing.len() {
-        let old = clearing[at];
-        clearing[at] = value;
-        say(b"clearing byte ");
-        say_edit(at, value);
-        say_files(clearing::read_files(day, &clearing[..]));
-        clearing[at] = old;
-    }
-}
-
-// Each edit is three bytes: 0 for the day file and 1 for the clearing file, the place, and the byte to put there.
-fn edited(day: &mut [u8], clearing: &mut [u8], edits: &[u8]) {
-    for i in 0..edits.len() / 3 {
-        let at = edits[3 * i + 1] as usize;
-        if edits[3 * i] == 0 {
-            day_edited(day, &clearing[..], at, edits[3 * i + 2]);
-        } else {
-            clearing_edited(&day[..], clearing, at, edits[3 * i + 2]);
-        }
-    }
-}
+// ---- the look-up
 
 fn say_part(part: &[u8]) {
     say(b" part of ");
@@ -105,22 +153,26 @@ fn say_part(part: &[u8]) {
     if 0 < part.len() {
         say(b" ");
     }
-    for i in 0..part.len() {
-        io::print_hex(STDOUT_FILENO, part[i] as u64, 2);
-    }
+    say_bytes(part);
     say(b"\n");
 }
 
-fn looked_up(name: &[u8], day: &[u8]) {
+fn say_look_up(name: &[u8], day: &[u8], section: usize) {
+    say(name);
+    say(b" section ");
+    say_number(section);
+    say(b" refused");
+    say_fault(lookup::look_up_fault(day, section));
+    say_part(lookup::look_up(day, section));
+}
+
+fn say_look_ups(name: &[u8], day: &[u8]) {
     for section in 0..7 {
-        say(name);
-        say(b" section ");
-        say_number(section);
-        say(b" refused");
-        say_fault(lookup::look_up_fault(day, section));
-        say_part(lookup::look_up(day, section));
+        say_look_up(name, day, section);
     }
 }
+
+// ---- the run
 
 fn loaded(path: &[u8], room: &mut [u8]) -> usize
     ensures { λ r. ⌜ Counts r (now (room .exit)) ⌝ }
@@ -134,6 +186,27 @@ fn loaded(path: &[u8], room: &mut [u8]) -> usize
     n
 }
 
+fn without_last<'a>(s: &'a [u8]) -> &'a [u8] {
+    if 0 < s.len() { &s[0..s.len() - 1] } else { s }
+}
+
+// Each of the two files is lent with one byte more, which stands behind it in its room.
+fn say_all<'a>(longer_day: &'a [u8], longer_clearing: &'a [u8], edits: &[u8]) {
+    let day = without_last(longer_day);
+    let shorter_day = without_last(day);
+    let clearing = without_last(longer_clearing);
+    say_named(b"day A and clearing A", day, clearing);
+    say_named(b"day A without its last byte", shorter_day, clearing);
+    say_named(b"two empty files", b"", b"");
+    say_named(b"day A with one byte more", longer_day, clearing);
+    say_named(b"clearing A with one byte more", day, longer_clearing);
+    say_cuts(DAY, day, clearing);
+    say_cuts(CLEARING, day, clearing);
+    say_edits(edits, day, clearing);
+    say_look_ups(b"day A", day);
+    say_look_ups(b"day A without its last byte", shorter_day);
+}
+
 fn main() {
     let mut day = [0u8; 128];
     let d = loaded(b"day_a", &mut day);
@@ -141,23 +214,9 @@ fn main() {
     let c = loaded(b"clearing_a", &mut clearing);
     let mut edits = [0u8; 4096];
     let e = loaded(b"edits", &mut edits);
-    if d == 0 {
-        return;
-    }
-    if 128 <= d {
-        return;
-    }
-    if 128 <= c {
-        return;
-    }
-    judged(b"day A and clearing A", &day[..d], &clearing[..c]);
-    judged(b"day A without its last byte", &day[..d - 1], &clearing[..c]);
-    judged(b"two empty files", &day[..0], &clearing[..0]);
-    judged(b"day A with one byte more", &day[..d + 1], &clearing[..c]);
-    judged(b"clearing A with one byte more", &day[..d], &clearing[..c + 1]);
-    day_cut(&day[..d], &clearing[..c]);
-    clearing_cut(&day[..d], &clearing[..c]);
-    edited(&mut day[..d], &mut clearing[..c], &edits[..e]);
-    looked_up(b"day A", &day[..d]);
-    looked_up(b"day A without its last byte", &day[..d - 1]);
+    say_all(
+        first(&day, d + 1),
+        first(&clearing, c + 1),
+        first(&edits, e),
+    );
 }

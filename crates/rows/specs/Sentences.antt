@@ -112,9 +112,9 @@ forward-and-back P at n = (
     λ h l. let e : at + 2 + 4 * (2 * h + 1) ≡ at + 6 + 8 * h = omega arith in rw e at (f (2 * h + 1) (omega arith)),
   ),
   λ g k l. ⊎-elim
-    (λ (z : 0 ≡ k % 2). let e : at + 2 + 8 * (k / 2) ≡ at + 2 + 4 * k = omega arith in rw e at (g .0 (k / 2) (omega arith)))
-    (λ (z : 0 < k % 2). let e : at + 6 + 8 * (k / 2) ≡ at + 2 + 4 * k = omega arith in rw e at (g .1 (k / 2) (omega arith)))
-    (eq-or-lt-of-le (omega arith)),
+      (λ (z : 0 ≡ k % 2). let e : at + 2 + 8 * (k / 2) ≡ at + 2 + 4 * k = omega arith in rw e at (g .0 (k / 2) (omega arith)))
+      (λ (z : 0 < k % 2). let e : at + 6 + 8 * (k / 2) ≡ at + 2 + 4 * k = omega arith in rw e at (g .1 (k / 2) (omega arith)))
+      (eq-or-lt-of-le (omega arith)),
 )
 
 -- ---- the tests are the sentences

@@ -24,9 +24,13 @@ pub enum Kind {
 }
 
 const PRICE_LEAST: i64 = -1000000;
+
 const PRICE_MOST: i64 = 1000000;
+
 const FLOW_LEAST: i64 = -1000000;
+
 const FLOW_MOST: i64 = 1000000;
+
 const VOLUME_MOST: u32 = 1000000;
 
 pub fn row_size(kind: Kind, periods: usize) -> usize
@@ -106,7 +110,11 @@ fn code_before(part: &[u8], i: usize, at: usize) -> usize
     requires { ⌜ (2 ≤ at) × (at ≤ length (now part)) ⌝ }
     ensures { λ r. ⌜ r ≡ codeBefore (now (part .entry)) i at ⌝ }
 {
-    if i == 0 { 0 } else { wire::u16_at(part, at - 2) }
+    if i == 0 {
+        0
+    } else {
+        wire::u16_at(part, at - 2)
+    }
 }
 
 fn zone_ok(part: &[u8], i: usize, at: usize) -> bool
@@ -163,7 +171,8 @@ fn block_ok(part: &[u8], periods: usize, zones: usize, at: usize) -> bool
         wire::u8_at(part, at + 1),
         wire::u16_at(part, at + 2),
         wire::i32_at(part, at + 4),
-    ) & volumes_within(part, at + 8, periods, VOLUME_MOST)
+    )
+        & volumes_within(part, at + 8, periods, VOLUME_MOST)
         & !volumes_within(part, at + 8, periods, 0)
 }
 

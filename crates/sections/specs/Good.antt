@@ -27,19 +27,26 @@ pub section-clean : (numbers : Numbers) (number least most size : ℕ) (ok : ℕ
     Means (section numbers number least most size ok part) Clean ↔ GoodSection least most size ok part
 section-clean numbers number least most size ok part = (
   λ m. let limits = both (leb least (count part)) (leb (count part) most) .0 (m .1 .0 0 0 (omega arith) (omega arith)) in
-    record {
-      counted = leb-true 2 (length part) (m .0 0 0 (omega arith) (omega arith));
-      at-least = leb-true least (count part) (limits .0);
-      at-most = leb-true (count part) most (limits .1);
-      room = leb-true (2 + size * count part) (length part) (m .1 .1 .0 0 0 (omega arith) (omega arith));
-      rows = λ i l. m .1 .1 .1 .0 0 i (omega arith) l;
-    },
+      record {
+        counted = leb-true 2 (length part) (m .0 0 0 (omega arith) (omega arith));
+        at-least = leb-true least (count part) (limits .0);
+        at-most = leb-true (count part) most (limits .1);
+        room = leb-true (2 + size * count part) (length part) (m .1 .1 .0 0 0 (omega arith) (omega arith));
+        rows = λ i l. m .1 .1 .1 .0 0 i (omega arith) l;
+      },
   λ g. (
     λ z i _ _. le-leb 2 (length part) (g .counted),
-    (λ z i _ _. both (leb least (count part)) (leb (count part) most) .1 (le-leb least (count part) (g .at-least), le-leb (count part) most (g .at-most)),
-    (λ z i _ _. le-leb (2 + size * count part) (length part) (g .room),
-    (λ z i _ l. g .rows i l,
-    tt)))),
+    (
+      λ z i _ _. both (leb least (count part)) (leb (count part) most) .1 (le-leb least (count part) (g .at-least), le-leb (count part) most (g .at-most)),
+      (
+        λ z i _ _. le-leb (2 + size * count part) (length part) (g .room),
+        (
+          λ z i _ l. g .rows i l,
+          tt,
+        ),
+      ),
+    ),
+  ),
 )
 
 -- nothing comes after the last section

@@ -29,9 +29,27 @@ pub fn named(answer: Section, number: usize, cut: u8, beyond: u8, bad: u8) -> Re
 {
     match answer {
         Section::Rows(n) => Reading::Good(n),
-        Section::CutOff => Reading::Refused(cut, Place { first: number, second: 0 }),
-        Section::Beyond => Reading::Refused(beyond, Place { first: number, second: 0 }),
-        Section::BadRow(i) => Reading::Refused(bad, Place { first: number, second: i }),
+        Section::CutOff => Reading::Refused(
+            cut,
+            Place {
+                first: number,
+                second: 0,
+            },
+        ),
+        Section::Beyond => Reading::Refused(
+            beyond,
+            Place {
+                first: number,
+                second: 0,
+            },
+        ),
+        Section::BadRow(i) => Reading::Refused(
+            bad,
+            Place {
+                first: number,
+                second: i,
+            },
+        ),
     }
 }
 

@@ -93,7 +93,7 @@ pub every-is : (n : ℕ) (t : ℕ → Bool) → (every n t ≡ true) ↔ ((j : �
 every-is zero t = (λ e j l. absurd (not-suc-le-zero l), λ h. refl)
 every-is (suc n) t = (
   λ e j l. let b = both (every n t) (t n) .0 e in
-    ⊎-elim (λ q. rw q (b .1)) (λ m. every-is n t .0 (b .0) j m) (eq-or-lt-of-le (le-of-suc-le-suc l)),
+      ⊎-elim (λ q. rw q (b .1)) (λ m. every-is n t .0 (b .0) j m) (eq-or-lt-of-le (le-of-suc-le-suc l)),
   λ h. both (every n t) (t n) .1 (every-is n t .1 (λ j l. h j (omega arith)), h n (omega arith)),
 )
 

@@ -11,7 +11,7 @@ use Rattle.sections.proofs.read_head.Statement.{statement}
 use Rattle.sections.proofs.read_head.Tie as tie
 
 returns : tie.Need-returns
-returns c = simp (lt-leb _ _ (c .if1 .taken))
+returns c = simp (lt-leb 2 (length (now (c .before .before .args .part))) (omega arith))
 
 u16-at-requires : tie.Need-u16-at-requires
 u16-at-requires c κs = search needs
@@ -19,12 +19,13 @@ u16-at-requires c κs = search needs
 returns-2 : tie.Need-returns-2
 returns-2 c =
     let e = c .before in
-    simp (le-leb _ _ (e .before .if1 .left), ← e .u16-at .ensures .0, lt-leb _ _ (c .if2 .taken))
+    simp (le-leb _ _ (e .before .if1 .left), ← e .u16-at .ensures .0, lt-leb (e .before .before .before .args .least) (e .u16-at .result) (omega arith))
 
 returns-3 : tie.Need-returns-3
 returns-3 c =
     let e = c .before .before in
-    simp (le-leb _ _ (e .before .if1 .left), ← e .u16-at .ensures .0, le-leb _ _ (c .before .if2 .left), lt-leb _ _ (c .if3 .taken))
+    let a = e .before .before .before .args in
+    simp (le-leb _ _ (e .before .if1 .left), ← e .u16-at .ensures .0, le-leb (a .least) (e .u16-at .result) (omega arith), lt-leb (e .u16-at .result) (a .most) (omega arith))
 
 sub-if4 : tie.Need-sub-if4
 sub-if4 c = search needs
@@ -39,12 +40,16 @@ mul-if4 c =
 returns-4 : tie.Need-returns-4
 returns-4 c =
     let e = c .before .before .before in
-    simp (le-leb _ _ (e .before .if1 .left), ← e .u16-at .ensures .0, le-leb _ _ (c .before .before .if2 .left), le-leb _ _ (c .before .if3 .left), lt-leb (2 + e .before .before .before .args .size * e .u16-at .result) (length (now (e .before .before .before .args .part))) (omega arith))
+    let a = e .before .before .before .args in
+    let n = e .u16-at .result in
+    simp (le-leb _ _ (e .before .if1 .left), ← e .u16-at .ensures .0, le-leb (a .least) n (omega arith), le-leb n (a .most) (omega arith), lt-leb (2 + a .size * n) (length (now (a .part))) (omega arith))
 
 returns-5 : tie.Need-returns-5
 returns-5 c =
     let e = c .before .before .before in
-    simp (le-leb _ _ (e .before .if1 .left), ← e .u16-at .ensures .0, le-leb _ _ (c .before .before .if2 .left), le-leb _ _ (c .before .if3 .left), le-leb (2 + e .before .before .before .args .size * e .u16-at .result) (length (now (e .before .before .before .args .part))) (omega arith))
+    let a = e .before .before .before .args in
+    let n = e .u16-at .result in
+    simp (le-leb _ _ (e .before .if1 .left), ← e .u16-at .ensures .0, le-leb (a .least) n (omega arith), le-leb n (a .most) (omega arith), le-leb (2 + a .size * n) (length (now (a .part))) (omega arith))
 
 pub read-head-spec : {M : Type 1} → statement M
 read-head-spec =
