@@ -1,7 +1,7 @@
 -- The look-up gives back the rows of a named section as that part of the caller's file, without its count, for a day file that reads
 -- without fault. An empty section gives an empty part and no refusal; whether the look-up is refused may be asked separately from the part.
 -- Assumes nothing.
-use Prim.Native.Nat.{ℕ}
+use Prim.Native.Nat.{ℕ, _+_}
 use mathlib.Core.Bool.{Bool, true, false}
 use mathlib.Core.List.{List, [], _∷_}
 use lib.Dec.{eqb}
@@ -9,9 +9,10 @@ use Rattle.stages.specs.Stage.{Stage, once, place, firstFault, answer}
 use Rattle.sections.specs.Section.{between, rows}
 use Rattle.rows.specs.Rows.{rowSize}
 use Rattle.rows.specs.declared.Kind.the-variants.{Periods, Zones, Lines, Steps, Blocks}
+use Rattle.parts.specs.Of.{zonesAt, linesAt, stepsAt, blocksAt}
 use Rattle.day.specs.Day.{periods, zonesPart, linesPart, stepsPart, blocksPart, dayStages}
 
-abbrev pub pick : Bool → List ℕ → List ℕ → List ℕ
+abbrev pub pick : {A : Type 0} → Bool → A → A → A
 pick true a b = a
 pick false a b = b
 
@@ -25,6 +26,16 @@ rowsOf section day =
     (pick (eqb section 5) (rows (rowSize Blocks (periods day)) (blocksPart day))
     []))))
 
+-- where they start in the file
+abbrev pub rowsAt : ℕ → List ℕ → ℕ
+rowsAt section day =
+    pick (eqb section 1) 2
+    (pick (eqb section 2) (2 + zonesAt day)
+    (pick (eqb section 3) (2 + linesAt day)
+    (pick (eqb section 4) (2 + stepsAt day)
+    (pick (eqb section 5) (2 + blocksAt day)
+    0))))
+
 -- 19, a section that is not 1 to 5, comes first; then 1 to 4
 abbrev pub lookUpStages : ℕ → List ℕ → List Stage
 lookUpStages section day = once 19 (place 0 0) (between 1 5 section) ∷ dayStages day
@@ -32,3 +43,7 @@ lookUpStages section day = once 19 (place 0 0) (between 1 5 section) ∷ dayStag
 -- refused, it gives an empty part
 abbrev pub lookUp : ℕ → List ℕ → List ℕ
 lookUp section day = answer (rowsOf section day) (λ k p. []) (firstFault (lookUpStages section day))
+
+-- where it starts in the file; an empty part that is a refusal's, at the file's start
+abbrev pub lookUpAt : ℕ → List ℕ → ℕ
+lookUpAt section day = answer (rowsAt section day) (λ k p. 0) (firstFault (lookUpStages section day))

@@ -1,5 +1,6 @@
 -- What the look-up's reading of the day file answers, and what follows for the part and the refusal. Assumes nothing.
-use Prim.Native.Nat.{ℕ}
+use Prim.Native.Nat.{ℕ, _+_}
+use native.Mathlib.Nat.{add-assoc}
 use native.Mathlib.Omega.{arith}
 use mathlib.Core.Path.{_≡_, refl, sym, ap, subst, _∙_}
 use mathlib.Core.Logic.{_↔_}
@@ -8,13 +9,14 @@ use Rattle.stages.specs.Stage.{Means, means, firstFault, answer}
 use Rattle.stages.specs.declared.Place.{Place}
 use Rattle.stages.specs.declared.Fault.{Fault}
 use Rattle.stages.specs.declared.Fault.the-variants.{Broken, Clean}
+use Rattle.sections.specs.Section.{onward}
 use Rattle.day.specs.declared.Counts.{Counts}
 use Rattle.day.specs.declared.DayFile.{DayFile}
 use Rattle.day.specs.declared.DayFile.the-variants.{Good, Bad}
 use Rattle.day.specs.Day.{counts, dayStages}
 use Rattle.day.specs.Good.{GoodDay, day-clean}
 use Rattle.parts.specs.Of.{OfDay}
-use Rattle.lookup.specs.LookUp.{rowsOf, lookUpStages, lookUp}
+use Rattle.lookup.specs.LookUp.{rowsOf, rowsAt, lookUpStages, lookUp, lookUpAt}
 
 abbrev pub dayFileFor : ℕ → List ℕ → DayFile
 dayFileFor section day = answer (Good (counts day)) Bad (firstFault (lookUpStages section day))
@@ -44,12 +46,24 @@ module _ (section : ℕ) (day : List ℕ) where
     counted = good-is (firstFault (lookUpStages section day)) e .1;
   }
 
-  -- the part
-  pub refused-part : {k : ℕ} {p : Place} → dayFileFor section day ≡ Bad k p → [] ≡ lookUp section day
-  refused-part e = rw (refused-for e)
+  -- the part, and where it stands in the file
+  pub refused-part : {k : ℕ} {p : Place} → dayFileFor section day ≡ Bad k p → ([] ≡ lookUp section day) × (lookUpAt section day ≡ 0)
+  refused-part e = (rw (refused-for e), rw (refused-for e))
 
   pub found-part : {c : Counts} {x : List ℕ} → dayFileFor section day ≡ Good c → x ≡ rowsOf section day → x ≡ lookUp section day
   found-part e q = rw (clean-for e) q
 
-pub by-number : (day : List ℕ) {s k : ℕ} {x : List ℕ} → s ≡ k → x ≡ rowsOf k day → x ≡ rowsOf s day
-by-number day e q = q ∙ ap (λ (n : ℕ). rowsOf n day) (sym e)
+  pub found-at : {c : Counts} (file : ℕ × ℕ) {x : ℕ × ℕ} → dayFileFor section day ≡ Good c → x ≡ onward (rowsAt section day) file → x ≡ onward (lookUpAt section day) file
+  found-at file e q = rw (clean-for e) q
+
+-- the rows of a section by its number, and where they start
+module _ (day : List ℕ) {s k : ℕ} (e : s ≡ k) where
+  pub by-number : {x : List ℕ} → x ≡ rowsOf k day → x ≡ rowsOf s day
+  by-number q = q ∙ ap (λ (n : ℕ). rowsOf n day) (sym e)
+
+  pub at-number : (file : ℕ × ℕ) {x : ℕ × ℕ} → x ≡ onward (rowsAt k day) file → x ≡ onward (rowsAt s day) file
+  at-number file q = q ∙ ap (λ (n : ℕ). onward (rowsAt n day) file) (sym e)
+
+-- two bytes on from a part that stands in the file
+pub behind-count : (at : ℕ) (file : ℕ × ℕ) {part x : ℕ × ℕ} → part ≡ onward at file → x ≡ onward 2 part → x ≡ onward (2 + at) file
+behind-count at file p q = rw (q, p, add-assoc 2 at (file .1))

@@ -6,23 +6,24 @@ use stages::Fault;
 use stages::Place;
 ghost use mathlib.Core.Path.{_≡_};
 ghost use Rattle.stages.specs.Stage.{firstFault};
-ghost use Rattle.sections.specs.Section.{rows};
+ghost use denote.Ref.{ptr};
+ghost use Rattle.sections.specs.Section.{rows, onward};
 ghost use Rattle.rows.specs.Rows.{rowSize};
 ghost use Rattle.parts.specs.Of.{OfDay, Sized};
-ghost use Rattle.lookup.specs.LookUp.{rowsOf, lookUpStages, lookUp};
+ghost use Rattle.lookup.specs.LookUp.{rowsOf, rowsAt, lookUpStages, lookUp, lookUpAt};
 ghost use Rattle.lookup.specs.Reading.{dayFileFor};
 
 // The n rows of a section.
 fn rows_of<'a>(kind: Kind, periods: usize, part: &'a [u8], n: usize) -> &'a [u8]
     requires { ⌜ Sized kind periods (now part) n ⌝ }
-    ensures { λ r. ⌜ now r ≡ rows (rowSize kind periods) (now (part .entry)) ⌝ }
+    ensures { λ r. ⌜ (now r ≡ rows (rowSize kind periods) (now (part .entry))) × (ptr r ≡ onward 2 (ptr (part .entry))) ⌝ }
 {
     sections::rows(part, n, rows::row_size(kind, periods))
 }
 
 fn named_rows<'a>(day: &'a [u8], section: usize, counts: Counts) -> &'a [u8]
     requires { ⌜ OfDay (now day) counts ⌝ }
-    ensures { λ r. ⌜ now r ≡ rowsOf section (now (day .entry)) ⌝ }
+    ensures { λ r. ⌜ (now r ≡ rowsOf section (now (day .entry))) × (ptr r ≡ onward (rowsAt section (now (day .entry))) (ptr (day .entry))) ⌝ }
 {
     if section == 1 {
         return rows_of(Kind::Periods, 0, day, counts.periods);
@@ -89,7 +90,8 @@ fn read_for(day: &[u8], section: usize) -> DayFile
 
 // The rows of a section of any bytes, as that part of them; empty where the look-up is refused.
 pub fn look_up<'a>(day: &'a [u8], section: usize) -> &'a [u8]
-    ensures { λ r. ⌜ now r ≡ lookUp section (now (day .entry)) ⌝ }
+    ensures bytes { λ r. ⌜ now r ≡ lookUp section (now (day .entry)) ⌝ }
+    ensures stands { λ r. ⌜ ptr r ≡ onward (lookUpAt section (now (day .entry))) (ptr (day .entry)) ⌝ }
 {
     match read_for(day, section) {
         DayFile::Bad(_, _) => &day[..0],

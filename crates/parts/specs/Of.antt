@@ -1,10 +1,11 @@
 -- A day file that reads without fault, with its counts in hand, and what is then known of each of its sections. Assumes nothing.
 use Prim.Native.Nat.{ℕ, _+_, _*_, _≤_}
+use native.Mathlib.Nat.{add-assoc}
 use native.Mathlib.Omega.{arith}
 use mathlib.Core.Path.{_≡_, refl, ap, subst, _∙_}
 use mathlib.Core.List.{List}
 use lib.ListN.{length}
-use Rattle.sections.specs.Section.{count, after, rows}
+use Rattle.sections.specs.Section.{count, after, rows, onward}
 use Rattle.rows.specs.Rows.{rowSize}
 use Rattle.rows.specs.declared.Kind.{Kind}
 use Rattle.rows.specs.declared.Kind.the-variants.{Periods, Zones, Lines, Steps, Blocks}
@@ -12,6 +13,22 @@ use Rattle.reader.specs.Reader.{GoodRows}
 use Rattle.day.specs.declared.Counts.{Counts}
 use Rattle.day.specs.Day.{periods, zones, zonesPart, linesPart, stepsPart, blocksPart, counts}
 use Rattle.day.specs.Good.{GoodDay}
+
+-- ---- where the sections of a day file start
+
+abbrev pub zonesAt : List ℕ → ℕ
+zonesAt day = 2 + rowSize Periods 0 * periods day
+
+abbrev pub linesAt : List ℕ → ℕ
+linesAt day = 2 + rowSize Zones (periods day) * zones day + zonesAt day
+
+abbrev pub stepsAt : List ℕ → ℕ
+stepsAt day = 2 + rowSize Lines (periods day) * count (linesPart day) + linesAt day
+
+abbrev pub blocksAt : List ℕ → ℕ
+blocksAt day = 2 + rowSize Steps (periods day) * count (stepsPart day) + stepsAt day
+
+-- ---- the counts in hand
 
 pub record OfDay (day : List ℕ) (c : Counts) : Type 0 where
   pub good : GoodDay day
@@ -51,3 +68,11 @@ module _ {day : List ℕ} {c : Counts} (o : OfDay day c) where
 
   pub rows-same : (kind : Kind) {part whole : List ℕ} → part ≡ whole → rows (rowSize kind (c .periods)) part ≡ rows (rowSize kind (periods day)) whole
   rows-same kind q = rw (q, ← o .counted)
+
+  -- a part stands as far on as the file's own counts say: behind the first section, and behind another
+  pub stands-first : (size : Counts → ℕ) (file : ℕ × ℕ) {next : ℕ × ℕ} → next ≡ onward (size c) file → next ≡ onward (size (counts day)) file
+  stands-first size file q = rw (q, ← o .counted)
+
+  pub stands-behind : (size : Counts → ℕ) (at : ℕ) (file : ℕ × ℕ) {part next : ℕ × ℕ} → part ≡ onward at file → next ≡ onward (size c) part →
+      next ≡ onward (size (counts day) + at) file
+  stands-behind size at file p q = rw (q, p, ← o .counted, add-assoc (size (counts day)) at (file .1))

@@ -5,8 +5,9 @@ use stages::Found;
 ghost use mathlib.Core.Path.{_≡_};
 ghost use Prim.Native.Nat.{_+_, _*_, _≤_};
 ghost use lib.ListN.{length};
+ghost use denote.Ref.{ptr};
 ghost use Rattle.stages.specs.First.{firstBad};
-ghost use Rattle.sections.specs.Section.{count, after};
+ghost use Rattle.sections.specs.Section.{count, after, onward};
 ghost use Rattle.rows.specs.Rows.{rowSize, rowOk};
 ghost use Rattle.reader.specs.Reader.{rowsAt};
 
@@ -50,7 +51,7 @@ pub fn read_rows(
 // What is left of a file after a section of n rows.
 pub fn rest<'a>(kind: Kind, periods: usize, part: &'a [u8], n: usize) -> &'a [u8]
     requires { ⌜ (periods ≤ 25) × ((count (now part) ≡ n) × (2 + rowSize kind periods * n ≤ length (now part))) ⌝ }
-    ensures { λ r. ⌜ now r ≡ after (rowSize kind periods) (now (part .entry)) ⌝ }
+    ensures { λ r. ⌜ (now r ≡ after (rowSize kind periods) (now (part .entry))) × (ptr r ≡ onward (2 + rowSize kind periods * n) (ptr (part .entry))) ⌝ }
 {
     sections::after(part, n, rows::row_size(kind, periods))
 }

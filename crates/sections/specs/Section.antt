@@ -40,6 +40,10 @@ after size part = drop (2 + size * count part) part
 abbrev pub rows : ℕ → List ℕ → List ℕ
 rows size part = take (size * count part) (drop 2 part)
 
+-- where a part of a lent file stands: so many bytes on from where the file stands, which is a block of memory and an offset in it
+abbrev pub onward : ℕ → ℕ × ℕ → ℕ × ℕ
+onward n place = (place .0, n + place .1)
+
 -- Bytes after the last section.
 abbrev pub ended : ℕ → List ℕ → List Stage
 ended number part = once number (place 0 0) (leb (length part) 0) ∷ []

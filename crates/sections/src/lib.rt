@@ -3,6 +3,8 @@ use stages::Place;
 ghost use mathlib.Core.Path.{_≡_};
 ghost use Prim.Native.Nat.{_+_, _*_, _≤_, _<_};
 ghost use lib.ListN.{length, take, drop};
+ghost use denote.Ref.{ptr};
+ghost use Rattle.sections.specs.Section.{onward};
 ghost use Rattle.sections.specs.Answer.{headOf, readingOf};
 
 // What the reader of a section answers.
@@ -77,7 +79,7 @@ pub fn read_head(part: &[u8], least: usize, most: usize, size: usize) -> Section
 // What is left of a file after a section of n rows.
 pub fn after<'a>(part: &'a [u8], n: usize, size: usize) -> &'a [u8]
     requires { ⌜ 2 + size * n ≤ length (now part) ⌝ }
-    ensures { λ r. ⌜ now r ≡ drop (2 + size * n) (now (part .entry)) ⌝ }
+    ensures { λ r. ⌜ (now r ≡ drop (2 + size * n) (now (part .entry))) × (ptr r ≡ onward (2 + size * n) (ptr (part .entry))) ⌝ }
 {
     let at = 2 + size * n;
     &part[at..]
@@ -86,7 +88,7 @@ pub fn after<'a>(part: &'a [u8], n: usize, size: usize) -> &'a [u8]
 // The n rows of a section, without its count.
 pub fn rows<'a>(part: &'a [u8], n: usize, size: usize) -> &'a [u8]
     requires { ⌜ 2 + size * n ≤ length (now part) ⌝ }
-    ensures { λ r. ⌜ now r ≡ take (size * n) (drop 2 (now (part .entry))) ⌝ }
+    ensures { λ r. ⌜ (now r ≡ take (size * n) (drop 2 (now (part .entry)))) × (ptr r ≡ onward 2 (ptr (part .entry))) ⌝ }
 {
     let end = 2 + size * n;
     &part[2..end]

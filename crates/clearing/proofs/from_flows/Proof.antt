@@ -45,7 +45,7 @@ returns c =
 returns-2 : tie.Need-returns-2
 returns-2 c =
     let a = c .before .before .before .before .before .before .before .before .args in
-    handed-on clearingNumbers 2 Flows (a .counts .lines * a .counts .periods) (a .counts .lines * a .counts .periods) 0 0 (now (a .part)) Bad (λ left n. Good (a .counts)) (λ left n. fromVolumes (a .counts) left) (sym (c .before .before .before .before .before .read-section .ensures) ∙ c .before .before .before .n .given .1) (c .before .rest .ensures) (c .from-volumes .ensures)
+    handed-on clearingNumbers 2 Flows (a .counts .lines * a .counts .periods) (a .counts .lines * a .counts .periods) 0 0 (now (a .part)) Bad (λ left n. Good (a .counts)) (λ left n. fromVolumes (a .counts) left) (sym (c .before .before .before .before .before .read-section .ensures) ∙ c .before .before .before .n .given .1) (c .before .rest .ensures .0) (c .from-volumes .ensures)
 
 pub from-flows-spec : {M : Type 1} → statement M
 from-flows-spec =

@@ -37,7 +37,7 @@ returns c =
 returns-2 : tie.Need-returns-2
 returns-2 c =
     let a = c .before .before .before .before .before .before .before .args in
-    handed-on clearingNumbers 3 Volumes (a .counts .steps) (a .counts .steps) 0 0 (now (a .part)) Bad (λ left n. Good (a .counts)) (λ left n. fromTaken (a .counts) left) (sym (c .before .before .before .before .before .read-section .ensures) ∙ c .before .before .before .n .given .1) (c .before .rest .ensures) (c .from-taken .ensures)
+    handed-on clearingNumbers 3 Volumes (a .counts .steps) (a .counts .steps) 0 0 (now (a .part)) Bad (λ left n. Good (a .counts)) (λ left n. fromTaken (a .counts) left) (sym (c .before .before .before .before .before .read-section .ensures) ∙ c .before .before .before .n .given .1) (c .before .rest .ensures .0) (c .from-taken .ensures)
 
 pub from-volumes-spec : {M : Type 1} → statement M
 from-volumes-spec =

@@ -47,7 +47,7 @@ returns-2 : tie.Need-returns-2
 unfolding clearingStages
 returns-2 c =
     let a = c .before .before .before .before .before .before .before .before .args in
-    handed-on clearingNumbers 1 Prices (a .counts .zones * a .counts .periods) (a .counts .zones * a .counts .periods) 0 0 (now (a .clearing)) Bad (λ left n. Good (a .counts)) (λ left n. fromFlows (a .counts) left) (sym (c .before .before .before .before .before .read-section .ensures) ∙ c .before .before .before .n .given .1) (c .before .rest .ensures) (c .from-flows .ensures)
+    handed-on clearingNumbers 1 Prices (a .counts .zones * a .counts .periods) (a .counts .zones * a .counts .periods) 0 0 (now (a .clearing)) Bad (λ left n. Good (a .counts)) (λ left n. fromFlows (a .counts) left) (sym (c .before .before .before .before .before .read-section .ensures) ∙ c .before .before .before .n .given .1) (c .before .rest .ensures .0) (c .from-flows .ensures)
 
 pub read-clearing-spec : {M : Type 1} → statement M
 read-clearing-spec =

@@ -38,7 +38,7 @@ returns c =
 returns-2 : tie.Need-returns-2
 returns-2 c =
     let a = c .before .before .before .before .before .before .before .args in
-    handed-on dayNumbers 5 Blocks 0 mostBlocks (a .periods) (a .zones) (now (a .part)) Bad (λ left n. Good (countsOf (a .periods) (a .zones) (a .lines) (a .steps) n)) (λ left n. ended 4 left) (sym (c .before .before .before .before .before .read-section .ensures) ∙ c .before .before .before .blocks2 .given .1) (c .before .rest .ensures) (c .from-end .ensures)
+    handed-on dayNumbers 5 Blocks 0 mostBlocks (a .periods) (a .zones) (now (a .part)) Bad (λ left n. Good (countsOf (a .periods) (a .zones) (a .lines) (a .steps) n)) (λ left n. ended 4 left) (sym (c .before .before .before .before .before .read-section .ensures) ∙ c .before .before .before .blocks2 .given .1) (c .before .rest .ensures .0) (c .from-end .ensures)
 
 pub from-blocks-spec : {M : Type 1} → statement M
 from-blocks-spec =

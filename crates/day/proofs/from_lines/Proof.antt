@@ -37,7 +37,7 @@ returns c =
 returns-2 : tie.Need-returns-2
 returns-2 c =
     let a = c .before .before .before .before .before .before .before .args in
-    handed-on dayNumbers 3 Lines 0 mostLines (a .periods) (a .zones) (now (a .part)) Bad (λ left n. Good (countsSteps (a .periods) (a .zones) n left)) (λ left n. fromSteps (a .periods) (a .zones) left) (sym (c .before .before .before .before .before .read-section .ensures) ∙ c .before .before .before .lines .given .1) (c .before .rest .ensures) (c .from-steps .ensures)
+    handed-on dayNumbers 3 Lines 0 mostLines (a .periods) (a .zones) (now (a .part)) Bad (λ left n. Good (countsSteps (a .periods) (a .zones) n left)) (λ left n. fromSteps (a .periods) (a .zones) left) (sym (c .before .before .before .before .before .read-section .ensures) ∙ c .before .before .before .lines .given .1) (c .before .rest .ensures .0) (c .from-steps .ensures)
 
 pub from-lines-spec : {M : Type 1} → statement M
 from-lines-spec =

@@ -37,7 +37,7 @@ returns c =
 returns-2 : tie.Need-returns-2
 returns-2 c =
     let a = c .before .before .before .before .before .before .before .args in
-    handed-on dayNumbers 4 Steps 0 mostSteps (a .periods) (a .zones) (now (a .part)) Bad (λ left n. Good (countsBlocks (a .periods) (a .zones) (a .lines) n left)) (λ left n. fromBlocks (a .periods) (a .zones) left) (sym (c .before .before .before .before .before .read-section .ensures) ∙ c .before .before .before .steps .given .1) (c .before .rest .ensures) (c .from-blocks .ensures)
+    handed-on dayNumbers 4 Steps 0 mostSteps (a .periods) (a .zones) (now (a .part)) Bad (λ left n. Good (countsBlocks (a .periods) (a .zones) (a .lines) n left)) (λ left n. fromBlocks (a .periods) (a .zones) left) (sym (c .before .before .before .before .before .read-section .ensures) ∙ c .before .before .before .steps .given .1) (c .before .rest .ensures .0) (c .from-blocks .ensures)
 
 pub from-steps-spec : {M : Type 1} → statement M
 from-steps-spec =

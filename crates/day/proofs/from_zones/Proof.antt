@@ -37,7 +37,7 @@ returns c =
 returns-2 : tie.Need-returns-2
 returns-2 c =
     let a = c .before .before .before .before .before .before .before .args in
-    handed-on dayNumbers 2 Zones 1 mostZones (a .periods) 0 (now (a .part)) Bad (λ left n. Good (countsLines (a .periods) n left)) (λ left n. fromLines (a .periods) n left) (sym (c .before .before .before .before .before .read-section .ensures) ∙ c .before .before .before .zones .given .1) (c .before .rest .ensures) (c .from-lines .ensures)
+    handed-on dayNumbers 2 Zones 1 mostZones (a .periods) 0 (now (a .part)) Bad (λ left n. Good (countsLines (a .periods) n left)) (λ left n. fromLines (a .periods) n left) (sym (c .before .before .before .before .before .read-section .ensures) ∙ c .before .before .before .zones .given .1) (c .before .rest .ensures .0) (c .from-lines .ensures)
 
 pub from-zones-spec : {M : Type 1} → statement M
 from-zones-spec =

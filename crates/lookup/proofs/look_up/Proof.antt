@@ -1,7 +1,8 @@
 -- `lookup::look_up` meets its contract. Assumes nothing.
 use mathlib.Core.Path.{sym, _∙_}
-use denote.Ref.{now}
-use Rattle.lookup.specs.Reading.{of-day, refused-part, found-part}
+use native.Mathlib.Nat.{zero-add}
+use denote.Ref.{now, ptr}
+use Rattle.lookup.specs.Reading.{of-day, refused-part, found-part, found-at}
 use borrow.Author.Needs.{needs}
 use Rattle.lookup.proofs.look_up.Statement.{statement}
 use Rattle.lookup.proofs.look_up.Tie as tie
@@ -26,12 +27,17 @@ named-rows-requires c κs =
 returns : tie.Need-returns
 returns c =
     let a = c .before .before .before .before .before .args in
-    refused-part (a .section) (now (a .day)) (sym (c .before .before .before .read-for .ensures) ∙ c .before .enum-told .given .1)
+    let e = refused-part (a .section) (now (a .day)) (sym (c .before .before .before .read-for .ensures) ∙ c .before .enum-told .given .1) in
+    (e .0, rw (e .1, zero-add))
 
 returns-2 : tie.Need-returns-2
 returns-2 c =
     let a = c .before .before .before .before .before .before .args in
-    found-part (a .section) (now (a .day)) (sym (c .before .before .before .before .read-for .ensures) ∙ c .before .before .counts .given .1) (c .named-rows .ensures)
+    let e = sym (c .before .before .before .before .read-for .ensures) ∙ c .before .before .counts .given .1 in
+    (
+      found-part (a .section) (now (a .day)) e (c .named-rows .ensures .0),
+      found-at (a .section) (now (a .day)) (ptr (a .day)) e (c .named-rows .ensures .1),
+    )
 
 pub look-up-spec : {M : Type 1} → statement M
 look-up-spec =

@@ -1,5 +1,5 @@
 -- `sections::after` meets its contract. Assumes nothing.
-use mathlib.Core.Path.{_≡_}
+use mathlib.Core.Path.{_≡_, refl}
 use mathlib.Core.List.{List}
 use Prim.Native.Nat.{ℕ, _+_, _*_, _-_}
 use native.Mathlib.Omega.{arith}
@@ -30,7 +30,7 @@ rest : (s : List ℕ) (at : ℕ) → take (length s - at) (drop at s) ≡ drop a
 rest s at = take-all (length s - at) (drop at s) (simp length-drop (omega arith))
 
 returns : tie.Need-returns
-returns c = rest (now (c .before .args .part)) (2 + c .before .args .size * c .before .args .n)
+returns c = (rest (now (c .before .args .part)) (2 + c .before .args .size * c .before .args .n), refl)
 
 pub after-spec : {M : Type 1} → statement M
 after-spec =

@@ -1,4 +1,5 @@
 -- `sections::rows` meets its contract. Assumes nothing.
+use mathlib.Core.Path.{refl}
 use native.Mathlib.Nat.{add-sub-cancel-left}
 use borrow.Author.Needs.{needs}
 use Rattle.sections.proofs.rows.Statement.{statement}
@@ -20,7 +21,7 @@ part-result-end : tie.Need-part-result-end
 part-result-end c = search needs
 
 returns : tie.Need-returns
-returns c = simp add-sub-cancel-left
+returns c = (simp add-sub-cancel-left, refl)
 
 pub rows-spec : {M : Type 1} → statement M
 rows-spec =
