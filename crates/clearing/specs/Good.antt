@@ -1,8 +1,8 @@
 -- What two files that read without fault guarantee, and what the reader's two answers mean. Assumes nothing.
-use Prim.Native.Nat.{ℕ, _+_, _*_, _≤_}
+use Prim.Native.Nat.{ℕ, _+_, _*_, _<_, _≤_}
 use native.Mathlib.Nat.{mul-le-mul, le-antisymm}
 use native.Mathlib.Omega.{arith}
-use mathlib.Core.Path.{_≡_, refl, _∙_}
+use mathlib.Core.Path.{_≡_, refl, sym, _∙_}
 use mathlib.Core.Logic.{_↔_}
 use mathlib.Core.List.{List}
 use lib.ListN.{length}
@@ -12,7 +12,9 @@ use Rattle.stages.specs.declared.Fault.{Fault}
 use Rattle.stages.specs.declared.Fault.the-variants.{Broken, Clean}
 use Rattle.sections.specs.Section.{count, after, ended}
 use Rattle.sections.specs.Good.{ended-clean, part-length}
-use Rattle.rows.specs.Rows.{rowSize}
+use Rattle.wire.specs.Bytes.{u8At, u32At, i32At}
+use Rattle.rows.specs.Rows.{rowSize, rowStart}
+use Rattle.rows.specs.Sentences.{IsPrice, IsFlow, price-row, flow-row, volume-row, taken-row}
 use Rattle.rows.specs.declared.Kind.{Kind}
 use Rattle.rows.specs.declared.Kind.the-variants.{Prices, Flows, Volumes, Taken}
 use Rattle.reader.specs.Reader.{GoodRows}
@@ -103,6 +105,10 @@ files-fault day clearing = by (firstFault (fileStages day clearing))
     by Clean = refl
     by (Broken k p) = refl
 
+-- the contract of `read_files` allows one answer
+pub one-files-answer : (day clearing : List ℕ) {r s : Files} → r ≡ files day clearing → s ≡ files day clearing → r ≡ s
+one-files-answer day clearing p q = p ∙ sym q
+
 -- ---- how long a good clearing file is
 
 added : {d r1 r2 r3 r4 : ℕ} (a1 a2 a3 a4 : ℕ) → d ≡ a1 + r1 → r1 ≡ a2 + r2 → r2 ≡ a3 + r3 → r3 ≡ a4 + r4 → r4 ≡ 0 → d ≡ a1 + a2 + a3 + a4
@@ -133,3 +139,18 @@ within c l =
 -- the largest clearing file
 pub clearing-longest : (day clearing : List ℕ) → GoodDay day → GoodClearing (counts day) clearing → length clearing ≤ 10508
 clearing-longest day clearing d g = rw (clearing-length (counts day) clearing g) (within (counts day) (in-limits d))
+
+-- ---- each row obeys its rule, as a sentence
+
+module _ {c : Counts} {clearing : List ℕ} (g : GoodClearing c clearing) {i : ℕ} where
+  pub good-price : i < c .zones * c .periods → IsPrice (i32At clearing (rowStart Prices 0 i))
+  good-price l = price-row 0 0 clearing i .0 (g .prices-good .rows i (rw (asked-is Prices (g .prices-good)) l))
+
+  pub good-flow : i < c .lines * c .periods → IsFlow (i32At (flowsPart clearing) (rowStart Flows 0 i))
+  good-flow l = flow-row 0 0 (flowsPart clearing) i .0 (g .flows-good .rows i (rw (asked-is Flows (g .flows-good)) l))
+
+  pub good-volume : i < c .steps → u32At (volumesPart clearing) (rowStart Volumes 0 i) ≤ 1000000
+  good-volume l = volume-row 0 0 (volumesPart clearing) i .0 (g .volumes-good .rows i (rw (asked-is Volumes (g .volumes-good)) l))
+
+  pub good-taken : i < c .blocks → u8At (takenPart clearing) (rowStart Taken 0 i) ≤ 1
+  good-taken l = taken-row 0 0 (takenPart clearing) i .0 (g .taken-good .rows i (rw (asked-is Taken (g .taken-good)) l))

@@ -13,7 +13,8 @@ use Rattle.stages.specs.declared.Fault.the-variants.{Broken, Clean}
 use Rattle.sections.specs.Section.{count, after, ended}
 use Rattle.sections.specs.Good.{GoodSection, ended-clean, part-length}
 use Rattle.rows.specs.Limits.{mostPeriods, mostZones, mostLines, mostSteps, mostBlocks}
-use Rattle.rows.specs.Rows.{rowSize, rowOk}
+use Rattle.rows.specs.Rows.{rowSize, rowStart}
+use Rattle.rows.specs.Sentences.{PeriodRow, ZoneRow, LineRow, StepRow, BlockRow, period-row, zone-row, line-row, step-row, block-row}
 use Rattle.rows.specs.declared.Kind.{Kind}
 use Rattle.rows.specs.declared.Kind.the-variants.{Periods, Zones, Lines, Steps, Blocks}
 use Rattle.reader.specs.Reader.{GoodRows}
@@ -96,26 +97,35 @@ day-clean day =
 
 -- ---- the two answers
 
-pub faultOf : DayFile → Fault
+-- the number and the place of each
+abbrev pub faultOf : DayFile → Fault
 faultOf (Good c) = Clean
 faultOf (Bad k p) = Broken k p
 
 not-good : {c : Counts} (k : ℕ) (p : Place) → ¬ (Bad k p ≡ Good c)
 not-good k p e = let z : _≡_ {A = ℕ} 0 1 = cc in omega arith
 
-fault-of : (k : ℕ) (p : Place) → faultOf (Bad k p) ≡ Broken k p
-unfolding faultOf
-fault-of k p = refl
+-- they are those of the first fault
+pub day-fault : (day : List ℕ) → faultOf (dayFile day) ≡ firstFault (dayStages day)
+day-fault day = by (firstFault (dayStages day))
+  where
+    by : (f : Fault) → faultOf (answer (Good (counts day)) Bad f) ≡ f
+    by Clean = refl
+    by (Broken k p) = refl
+
+-- the contract of `read_day` allows one answer
+pub one-day-answer : (day : List ℕ) {r s : DayFile} → r ≡ dayFile day → s ≡ dayFile day → r ≡ s
+one-day-answer day p q = p ∙ sym q
 
 -- a day file reads without fault just where it keeps the guarantees
 pub day-good : (day : List ℕ) → (dayFile day ≡ Good (counts day)) ↔ GoodDay day
 day-good day =
-    let a = answer-good (Good (counts day)) Bad not-good faultOf fault-of (dayStages day) in
+    let a = answer-good (Good (counts day)) Bad not-good faultOf (λ k p. refl) (dayStages day) in
     (λ e. day-clean day .0 (a .0 e), λ g. a .1 (day-clean day .1 g))
 
 -- it is refused with a number and a place just where that is its first fault
 pub day-bad : (day : List ℕ) (k : ℕ) (p : Place) → (dayFile day ≡ Bad k p) ↔ Means (dayStages day) (Broken k p)
-day-bad day k p = answer-bad (Good (counts day)) Bad not-good faultOf fault-of (dayStages day) k p
+day-bad day k p = answer-bad (Good (counts day)) Bad not-good faultOf (λ k p. refl) (dayStages day) k p
 
 -- the counts of a good answer are the file's
 pub good-counts : (day : List ℕ) (c : Counts) → dayFile day ≡ Good c → (counts day ≡ c) × GoodDay day
@@ -156,3 +166,21 @@ within c l =
 -- the largest day file
 pub day-longest : (day : List ℕ) → GoodDay day → length day ≤ 38258
 day-longest day g = rw (day-length day g) (within (counts day) (in-limits g))
+
+-- ---- each row obeys its rule, as a sentence
+
+module _ {day : List ℕ} (g : GoodDay day) {i : ℕ} where
+  pub good-period : i < periods day → PeriodRow day (rowStart Periods 0 i)
+  good-period l = period-row 0 0 day i .0 (g .periods-good .rows i l)
+
+  pub good-zone : i < zones day → ZoneRow (zonesPart day) i (rowStart Zones (periods day) i)
+  good-zone l = zone-row (periods day) 0 (zonesPart day) i .0 (g .zones-good .rows i l)
+
+  pub good-line : i < count (linesPart day) → LineRow (periods day) (zones day) (linesPart day) (rowStart Lines (periods day) i)
+  good-line l = line-row (periods day) (zones day) (linesPart day) i .0 (g .lines-good .rows i l)
+
+  pub good-step : i < count (stepsPart day) → StepRow (periods day) (zones day) (stepsPart day) (rowStart Steps (periods day) i)
+  good-step l = step-row (periods day) (zones day) (stepsPart day) i .0 (g .steps-good .rows i l)
+
+  pub good-block : i < count (blocksPart day) → BlockRow (periods day) (zones day) (blocksPart day) (rowStart Blocks (periods day) i)
+  good-block l = block-row (periods day) (zones day) (blocksPart day) i .0 (g .blocks-good .rows i l)

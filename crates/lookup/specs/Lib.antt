@@ -2,3 +2,5 @@
 pub mod LookUp
 -- What the look-up's reading of the day file answers, and what follows for the part and the refusal.
 pub mod Reading
+-- When the look-up is refused, what it gives, that this is a part of the file, and that its contracts allow one answer.
+pub mod Promises

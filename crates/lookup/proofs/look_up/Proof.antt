@@ -33,8 +33,7 @@ returns c =
 returns-2 : tie.Need-returns-2
 returns-2 c =
     let a = c .before .before .before .before .before .before .args in
-    let e = sym (c .before .before .before .before .read-for .ensures) ∙ c .before .before .counts .given .1 in
-    (
+    let e = sym (c .before .before .before .before .read-for .ensures) ∙ c .before .before .counts .given .1 in (
       found-part (a .section) (now (a .day)) e (c .named-rows .ensures .0),
       found-at (a .section) (now (a .day)) (ptr (a .day)) e (c .named-rows .ensures .1),
     )

@@ -31,8 +31,7 @@ returns-2 c =
     let s = c .before .before .before .before .before in
     let day = now (s .args .day) in
     let e = c .before .before .if2 .taken in
-    let part = c .before .zones-part .ensures in
-    (
+    let part = c .before .zones-part .ensures in (
       by-number day e (c .rows-of2 .ensures .0 ∙ rows-same (s .pre) Zones (part .0)),
       at-number day e (ptr (s .args .day)) (behind-count (zonesAt day) (ptr (s .args .day)) (part .1) (c .rows-of2 .ensures .1)),
     )
@@ -48,8 +47,7 @@ returns-3 c =
     let s = c .before .before .before .before .before .before in
     let day = now (s .args .day) in
     let e = c .before .before .if3 .taken in
-    let part = c .before .lines-part .ensures in
-    (
+    let part = c .before .lines-part .ensures in (
       by-number day e (c .rows-of3 .ensures .0 ∙ rows-same (s .pre) Lines (part .0)),
       at-number day e (ptr (s .args .day)) (behind-count (linesAt day) (ptr (s .args .day)) (part .1) (c .rows-of3 .ensures .1)),
     )
@@ -65,8 +63,7 @@ returns-4 c =
     let s = c .before .before .before .before .before .before .before in
     let day = now (s .args .day) in
     let e = c .before .before .if4 .taken in
-    let part = c .before .steps-part .ensures in
-    (
+    let part = c .before .steps-part .ensures in (
       by-number day e (c .rows-of4 .ensures .0 ∙ rows-same (s .pre) Steps (part .0)),
       at-number day e (ptr (s .args .day)) (behind-count (stepsAt day) (ptr (s .args .day)) (part .1) (c .rows-of4 .ensures .1)),
     )
@@ -82,8 +79,7 @@ returns-5 c =
     let s = c .before .before .before .before .before .before .before .before in
     let day = now (s .args .day) in
     let e = c .before .before .if5 .taken in
-    let part = c .before .blocks-part .ensures in
-    (
+    let part = c .before .blocks-part .ensures in (
       by-number day e (c .rows-of5 .ensures .0 ∙ rows-same (s .pre) Blocks (part .0)),
       at-number day e (ptr (s .args .day)) (behind-count (blocksAt day) (ptr (s .args .day)) (part .1) (c .rows-of5 .ensures .1)),
     )
@@ -92,11 +88,10 @@ slice-aggregate-result : tie.Need-slice-aggregate-result
 slice-aggregate-result c = search needs
 
 returns-6 : tie.Need-returns-6
-returns-6 c =
-    (
-      simp (ne-eqb _ _ (c .before .before .before .before .before .if1 .left), ne-eqb _ _ (c .before .before .before .before .if2 .left), ne-eqb _ _ (c .before .before .before .if3 .left), ne-eqb _ _ (c .before .before .if4 .left), ne-eqb _ _ (c .before .if5 .left)),
-      simp (ne-eqb _ _ (c .before .before .before .before .before .if1 .left), ne-eqb _ _ (c .before .before .before .before .if2 .left), ne-eqb _ _ (c .before .before .before .if3 .left), ne-eqb _ _ (c .before .before .if4 .left), ne-eqb _ _ (c .before .if5 .left), zero-add),
-    )
+returns-6 c = (
+  simp (ne-eqb _ _ (c .before .before .before .before .before .if1 .left), ne-eqb _ _ (c .before .before .before .before .if2 .left), ne-eqb _ _ (c .before .before .before .if3 .left), ne-eqb _ _ (c .before .before .if4 .left), ne-eqb _ _ (c .before .if5 .left)),
+  simp (ne-eqb _ _ (c .before .before .before .before .before .if1 .left), ne-eqb _ _ (c .before .before .before .before .if2 .left), ne-eqb _ _ (c .before .before .before .if3 .left), ne-eqb _ _ (c .before .before .if4 .left), ne-eqb _ _ (c .before .if5 .left), zero-add),
+)
 
 pub named-rows-spec : {M : Type 1} → statement M
 named-rows-spec =

@@ -18,8 +18,7 @@ rest-requires c κs = steps-sized (c .before .before .pre) (c .steps-part .ensur
 returns : tie.Need-returns
 returns c =
     let s = c .before .before .before in
-    let before = c .before .steps-part .ensures in
-    (
+    let before = c .before .steps-part .ensures in (
       c .rest .ensures .0 ∙ after-same (s .pre) Steps (before .0),
       stands-behind (s .pre) (λ k. 2 + rowSize Steps (k .periods) * k .steps) (stepsAt (now (s .args .day))) (ptr (s .args .day)) (before .1) (c .rest .ensures .1),
     )

@@ -18,8 +18,7 @@ rest-requires c κs = zones-sized (c .before .before .pre) (c .zones-part .ensur
 returns : tie.Need-returns
 returns c =
     let s = c .before .before .before in
-    let before = c .before .zones-part .ensures in
-    (
+    let before = c .before .zones-part .ensures in (
       c .rest .ensures .0 ∙ after-same (s .pre) Zones (before .0),
       stands-behind (s .pre) (λ k. 2 + rowSize Zones (k .periods) * k .zones) (zonesAt (now (s .args .day))) (ptr (s .args .day)) (before .1) (c .rest .ensures .1),
     )

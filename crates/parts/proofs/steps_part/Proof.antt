@@ -18,8 +18,7 @@ rest-requires c κs = lines-sized (c .before .before .pre) (c .lines-part .ensur
 returns : tie.Need-returns
 returns c =
     let s = c .before .before .before in
-    let before = c .before .lines-part .ensures in
-    (
+    let before = c .before .lines-part .ensures in (
       c .rest .ensures .0 ∙ after-same (s .pre) Lines (before .0),
       stands-behind (s .pre) (λ k. 2 + rowSize Lines (k .periods) * k .lines) (linesAt (now (s .args .day))) (ptr (s .args .day)) (before .1) (c .rest .ensures .1),
     )

@@ -14,8 +14,7 @@ after-requires c κs = rw (c .row-size .ensures .0) (c .before .before .pre .1 .
 
 returns : tie.Need-returns
 returns c =
-    let s = c .before .before .before in
-    (
+    let s = c .before .before .before in (
       c .after .ensures .0 ∙ after-is (now (s .args .part)) (c .before .row-size .ensures .0) (s .pre .1 .0),
       c .after .ensures .1 ∙ rw (c .before .row-size .ensures .0),
     )
