@@ -3,7 +3,7 @@ use Prim.Native.Nat.{ℕ}
 use mathlib.Core.List.{List, _++_}
 use Rattle.stages.specs.Stage.{Stage, firstFault, answer}
 use Rattle.sections.specs.Section.{count, after, ended}
-use Rattle.rows.specs.Limits.{mostZones, mostLines, mostSteps, mostBlocks}
+use Rattle.limits.specs.Limits.{mostZones, mostLines, mostSteps, mostBlocks}
 use Rattle.rows.specs.Rows.{rowSize}
 use Rattle.rows.specs.declared.Kind.the-variants.{Zones, Lines, Steps, Blocks}
 use Rattle.day.specs.Day.{daySection}

@@ -4,7 +4,7 @@ use mathlib.Core.List.{List, _++_}
 use Rattle.stages.specs.Stage.{Stage, firstFault, answer}
 use Rattle.stages.specs.declared.Place.{Place}
 use Rattle.sections.specs.Section.{Numbers, count, after, ended}
-use Rattle.rows.specs.Limits.{mostPeriods, mostZones, mostLines, mostSteps, mostBlocks}
+use Rattle.limits.specs.Limits.{mostPeriods, mostZones, mostLines, mostSteps, mostBlocks}
 use Rattle.rows.specs.Rows.{rowSize}
 use Rattle.rows.specs.declared.Kind.{Kind}
 use Rattle.rows.specs.declared.Kind.the-variants.{Periods, Zones, Lines, Steps, Blocks}

@@ -12,7 +12,7 @@ use Rattle.stages.specs.declared.Fault.{Fault}
 use Rattle.stages.specs.declared.Fault.the-variants.{Broken, Clean}
 use Rattle.sections.specs.Section.{count, after, ended}
 use Rattle.sections.specs.Good.{GoodSection, ended-clean, part-length}
-use Rattle.rows.specs.Limits.{mostPeriods, mostZones, mostLines, mostSteps, mostBlocks}
+use Rattle.limits.specs.Limits.{mostPeriods, mostZones, mostLines, mostSteps, mostBlocks}
 use Rattle.rows.specs.Rows.{rowSize, rowStart}
 use Rattle.rows.specs.Sentences.{PeriodRow, ZoneRow, LineRow, StepRow, BlockRow, period-row, zone-row, line-row, step-row, block-row}
 use Rattle.rows.specs.declared.Kind.{Kind}

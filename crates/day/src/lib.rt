@@ -9,16 +9,6 @@ ghost use Rattle.reader.specs.Reader.{readingAt};
 ghost use Rattle.day.specs.Day.{dayNumbers, dayFile};
 ghost use Rattle.day.specs.Chain.{countsZones, countsLines, countsSteps, countsBlocks, fileFrom, fromZones, fromLines, fromSteps, fromBlocks};
 
-const MOST_PERIODS: usize = 25;
-
-const MOST_ZONES: usize = 8;
-
-const MOST_LINES: usize = 16;
-
-const MOST_STEPS: usize = 2000;
-
-const MOST_BLOCKS: usize = 100;
-
 // How many rows each section has.
 pub struct Counts {
     pub periods: usize,
@@ -76,7 +66,15 @@ fn from_blocks(part: &[u8], periods: usize, zones: usize, lines: usize, steps: u
     requires { ⌜ periods ≤ 25 ⌝ }
     ensures { λ r. ⌜ r ≡ fileFrom (countsBlocks periods zones lines steps (now (part .entry))) (fromBlocks periods zones (now (part .entry))) ⌝ }
 {
-    match read_section(5, Kind::Blocks, 0, MOST_BLOCKS, periods, zones, part) {
+    match read_section(
+        5,
+        Kind::Blocks,
+        0,
+        limits::MOST_BLOCKS,
+        periods,
+        zones,
+        part,
+    ) {
         Reading::Refused(k, p) => DayFile::Bad(k, p),
         Reading::Good(blocks) => from_end(
             reader::rest(Kind::Blocks, periods, part, blocks),
@@ -95,7 +93,7 @@ fn from_steps(part: &[u8], periods: usize, zones: usize, lines: usize) -> DayFil
     requires { ⌜ periods ≤ 25 ⌝ }
     ensures { λ r. ⌜ r ≡ fileFrom (countsSteps periods zones lines (now (part .entry))) (fromSteps periods zones (now (part .entry))) ⌝ }
 {
-    match read_section(4, Kind::Steps, 0, MOST_STEPS, periods, zones, part) {
+    match read_section(4, Kind::Steps, 0, limits::MOST_STEPS, periods, zones, part) {
         Reading::Refused(k, p) => DayFile::Bad(k, p),
         Reading::Good(steps) => {
             from_blocks(
@@ -113,7 +111,7 @@ fn from_lines(part: &[u8], periods: usize, zones: usize) -> DayFile
     requires { ⌜ periods ≤ 25 ⌝ }
     ensures { λ r. ⌜ r ≡ fileFrom (countsLines periods zones (now (part .entry))) (fromLines periods zones (now (part .entry))) ⌝ }
 {
-    match read_section(3, Kind::Lines, 0, MOST_LINES, periods, zones, part) {
+    match read_section(3, Kind::Lines, 0, limits::MOST_LINES, periods, zones, part) {
         Reading::Refused(k, p) => DayFile::Bad(k, p),
         Reading::Good(lines) => {
             from_steps(
@@ -130,7 +128,7 @@ fn from_zones(part: &[u8], periods: usize) -> DayFile
     requires { ⌜ periods ≤ 25 ⌝ }
     ensures { λ r. ⌜ r ≡ fileFrom (countsZones periods (now (part .entry))) (fromZones periods (now (part .entry))) ⌝ }
 {
-    match read_section(2, Kind::Zones, 1, MOST_ZONES, periods, 0, part) {
+    match read_section(2, Kind::Zones, 1, limits::MOST_ZONES, periods, 0, part) {
         Reading::Refused(k, p) => DayFile::Bad(k, p),
         Reading::Good(zones) => from_lines(
             reader::rest(Kind::Zones, periods, part, zones),
@@ -144,7 +142,7 @@ fn from_zones(part: &[u8], periods: usize) -> DayFile
 pub fn read_day(file: &[u8]) -> DayFile
     ensures { λ r. ⌜ r ≡ dayFile (now (file .entry)) ⌝ }
 {
-    match read_section(1, Kind::Periods, 1, MOST_PERIODS, 0, 0, file) {
+    match read_section(1, Kind::Periods, 1, limits::MOST_PERIODS, 0, 0, file) {
         Reading::Refused(k, p) => DayFile::Bad(k, p),
         Reading::Good(periods) => from_zones(
             reader::rest(Kind::Periods, 0, file, periods),

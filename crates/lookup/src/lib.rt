@@ -7,7 +7,7 @@ use stages::Place;
 ghost use mathlib.Core.Path.{_≡_};
 ghost use Rattle.stages.specs.Stage.{firstFault};
 ghost use denote.Ref.{ptr};
-ghost use Rattle.sections.specs.Section.{rows, onward};
+ghost use Rattle.sections.specs.Section.{between, rows, onward};
 ghost use Rattle.rows.specs.Rows.{rowSize};
 ghost use Rattle.parts.specs.Of.{OfDay, Sized};
 ghost use Rattle.lookup.specs.LookUp.{rowsOf, rowsAt, lookUpStages, lookUp, lookUpAt};
@@ -63,20 +63,17 @@ fn named_rows<'a>(day: &'a [u8], section: usize, counts: Counts) -> &'a [u8]
     &day[..0]
 }
 
+fn is_section(section: usize) -> bool
+    ensures { λ r. ⌜ r ≡ between 1 5 section ⌝ }
+{
+    (1 <= section) & (section <= 5)
+}
+
 // 19 first, then the day file's own refusals.
 fn read_for(day: &[u8], section: usize) -> DayFile
     ensures { λ r. ⌜ r ≡ dayFileFor section (now (day .entry)) ⌝ }
 {
-    if section < 1 {
-        return DayFile::Bad(
-            19,
-            Place {
-                first: 0,
-                second: 0,
-            },
-        );
-    }
-    if 5 < section {
+    if !is_section(section) {
         return DayFile::Bad(
             19,
             Place {

@@ -6,10 +6,10 @@ use mathlib.Core.Bool.{Bool, _&&_, not}
 use mathlib.Core.List.{List, [], _∷_, _++_}
 use lib.ListN.{length}
 use Rattle.stages.specs.First.{every}
-use Rattle.sections.specs.Section.{all, fields}
-use Rattle.sections.specs.Answer.{all-fields, all-one}
-use Rattle.rows.specs.Limits.{isVolume}
-use Rattle.rows.specs.Rows.{from, to, capacity, endsRule, lineFields, blockZone, blockSide, blockSpare, blockPrice, blockQuantity, blockRule, empty, blockFields, rowSize, rowFields, rowOk}
+use Rattle.limits.specs.Fields.{all, fields, all-fields, all-one}
+use Rattle.limits.specs.Rules.{endsRule, blockRule}
+use Rattle.limits.specs.Limits.{isVolume}
+use Rattle.rows.specs.Rows.{from, to, capacity, lineFields, blockZone, blockSide, blockSpare, blockPrice, blockQuantity, empty, blockFields, rowSize, rowFields, rowOk}
 use Rattle.rows.specs.declared.Kind.{Kind}
 
 module _ (periods zones : ℕ) (part : List ℕ) (at : ℕ) where

@@ -1,5 +1,3 @@
--- What is meant: the limits, by name.
-pub mod Limits
 -- What is meant: the rows of both files' sections, their fields and their rules.
 pub mod Rows
 -- A row of lines or of blocks: its first fields, and then those of the periods.

@@ -8,8 +8,9 @@ use lib.IntN.{ℤ}
 use lib.Signed.{leZ}
 use Rattle.wire.specs.Bytes.{u8At, u16At, u32At, i32At}
 use Rattle.stages.specs.First.{every}
-use Rattle.sections.specs.Section.{all, fields}
-use Rattle.rows.specs.Limits.{isPrice, isFlow, isVolume, isQuantity}
+use Rattle.limits.specs.Fields.{all, fields}
+use Rattle.limits.specs.Limits.{isPrice, isFlow, isVolume}
+use Rattle.limits.specs.Rules.{periodRule, zoneRule, endsRule, stepRule, blockRule}
 use Rattle.rows.specs.declared.Kind.{Kind}
 use Rattle.rows.specs.declared.Kind.the-variants.{Periods, Zones, Lines, Steps, Blocks, Prices, Flows, Volumes, Taken}
 
@@ -39,9 +40,6 @@ floor part at = i32At part at
 abbrev pub ceiling : List ℕ → ℕ → ℤ
 ceiling part at = i32At part (at + 4)
 
-abbrev pub periodRule : ℤ → ℤ → List Bool
-periodRule floor ceiling = isPrice floor ∷ (isPrice ceiling && leZ floor ceiling) ∷ []
-
 abbrev pub periodFields : List ℕ → ℕ → List Bool
 periodFields part at = periodRule (floor part at) (ceiling part at)
 
@@ -57,9 +55,6 @@ pickN false a b = b
 
 abbrev pub codeBefore : List ℕ → ℕ → ℕ → ℕ
 codeBefore part i at = pickN (eqb i 0) 0 (u16At part (at - 2))
-
-abbrev pub zoneRule : ℕ → ℕ → List Bool
-zoneRule before code = (leb 1 code && ltb before code) ∷ []
 
 abbrev pub zoneFields : List ℕ → ℕ → ℕ → List Bool
 zoneFields part i at = zoneRule (codeBefore part i at) (code part at)
@@ -81,9 +76,6 @@ back part at period = u32At part (at + 6 + 8 * period)
 -- the capacities one after the other: forward and back of period 0, of period 1, and so on
 abbrev pub capacity : List ℕ → ℕ → ℕ → ℕ
 capacity part at k = u32At part (at + 2 + 4 * k)
-
-abbrev pub endsRule : ℕ → ℕ → ℕ → List Bool
-endsRule zones from to = ltb from zones ∷ (ltb to zones && not (eqb to from)) ∷ []
 
 abbrev pub lineFields : ℕ → ℕ → List ℕ → ℕ → List Bool
 lineFields periods zones part at =
@@ -109,16 +101,6 @@ stepPrice part at = i32At part (at + 4)
 abbrev pub stepQuantity : List ℕ → ℕ → ℕ
 stepQuantity part at = u32At part (at + 8)
 
-abbrev pub stepRule : ℕ → ℕ → ℕ → ℕ → ℕ → ℕ → ℤ → ℕ → List Bool
-stepRule zones periods zone period side spare price quantity =
-    ltb zone zones
-    ∷ ltb period periods
-    ∷ leb side 1
-    ∷ eqb spare 0
-    ∷ isPrice price
-    ∷ isQuantity quantity
-    ∷ []
-
 abbrev pub stepFields : ℕ → ℕ → List ℕ → ℕ → List Bool
 stepFields periods zones part at =
     stepRule zones periods (stepZone part at) (stepPeriod part at) (stepSide part at) (stepSpare part at) (stepPrice part at) (stepQuantity part at)
@@ -139,9 +121,6 @@ blockPrice part at = i32At part (at + 4)
 
 abbrev pub blockQuantity : List ℕ → ℕ → ℕ → ℕ
 blockQuantity part at period = u32At part (at + 8 + 4 * period)
-
-abbrev pub blockRule : ℕ → ℕ → ℕ → ℕ → ℤ → List Bool
-blockRule zones zone side spare price = ltb zone zones ∷ leb side 1 ∷ eqb spare 0 ∷ isPrice price ∷ []
 
 -- no quantity is above 0
 abbrev pub empty : ℕ → List ℕ → ℕ → Bool

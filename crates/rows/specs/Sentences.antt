@@ -15,7 +15,7 @@ use Rattle.whole.specs.Ring.{leZ-true}
 use Rattle.stages.specs.First.{every, Says, firstBad, foundNothing, says, every-first, every-is, both, apart}
 use Rattle.stages.specs.declared.Found.{Found}
 use Rattle.stages.specs.declared.Found.the-variants.{At, Nothing}
-use Rattle.rows.specs.Limits.{isPrice, isFlow}
+use Rattle.limits.specs.Limits.{isPrice, isFlow}
 use Rattle.rows.specs.Laws.{line-split, block-split}
 use Rattle.rows.specs.Rows.{rowStart, floor, ceiling, code, codeBefore, from, to, forward, back, stepZone, stepPeriod, stepSide, stepSpare, stepPrice, stepQuantity, blockZone, blockSide, blockSpare, blockPrice, blockQuantity, rowOk}
 use Rattle.rows.specs.declared.Kind.the-variants.{Periods, Zones, Lines, Steps, Blocks, Prices, Flows, Volumes, Taken}

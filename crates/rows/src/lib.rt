@@ -7,8 +7,8 @@ ghost use lib.ListN.{length};
 ghost use lib.Signed.{leZ};
 ghost use Rattle.wire.specs.Bytes.{u32At, i32At};
 ghost use Rattle.stages.specs.First.{every};
-ghost use Rattle.sections.specs.Section.{all};
-ghost use Rattle.rows.specs.Rows.{rowSize, rowStart, codeBefore, periodRule, zoneRule, endsRule, stepRule, blockRule, periodFields, zoneFields, lineFields, stepFields, blockFields, volumeFields, takenFields, rowOk};
+ghost use Rattle.limits.specs.Fields.{all};
+ghost use Rattle.rows.specs.Rows.{rowSize, rowStart, codeBefore, periodFields, zoneFields, lineFields, stepFields, blockFields, volumeFields, takenFields, rowOk};
 
 // The sections of a day file, and those of a clearing file.
 pub enum Kind {
@@ -22,16 +22,6 @@ pub enum Kind {
     Volumes,
     Taken,
 }
-
-const PRICE_LEAST: i64 = -1000000;
-
-const PRICE_MOST: i64 = 1000000;
-
-const FLOW_LEAST: i64 = -1000000;
-
-const FLOW_MOST: i64 = 1000000;
-
-const VOLUME_MOST: u32 = 1000000;
 
 pub fn row_size(kind: Kind, periods: usize) -> usize
     requires { ⌜ periods ≤ 25 ⌝ }
@@ -50,60 +40,13 @@ pub fn row_size(kind: Kind, periods: usize) -> usize
     }
 }
 
-// ---- rules over a row's fields
-
-fn period_rule(floor: i64, ceiling: i64) -> bool
-    ensures { λ r. ⌜ r ≡ all (periodRule floor ceiling) ⌝ }
-{
-    ((PRICE_LEAST <= floor) & (floor <= PRICE_MOST))
-        & (((PRICE_LEAST <= ceiling) & (ceiling <= PRICE_MOST)) & (floor <= ceiling))
-}
-
-fn zone_rule(before: usize, code: usize) -> bool
-    ensures { λ r. ⌜ r ≡ all (zoneRule before code) ⌝ }
-{
-    (1 <= code) & (before < code)
-}
-
-fn ends_rule(zones: usize, from: usize, to: usize) -> bool
-    ensures { λ r. ⌜ r ≡ all (endsRule zones from to) ⌝ }
-{
-    (from < zones) & ((to < zones) & (to != from))
-}
-
-fn step_rule(
-    zones: usize,
-    periods: usize,
-    zone: usize,
-    period: usize,
-    side: usize,
-    spare: usize,
-    price: i64,
-    quantity: u32,
-) -> bool
-    ensures { λ r. ⌜ r ≡ all (stepRule zones periods zone period side spare price quantity) ⌝ }
-{
-    (zone < zones)
-        & (period < periods)
-        & (side <= 1)
-        & (spare == 0)
-        & ((PRICE_LEAST <= price) & (price <= PRICE_MOST))
-        & ((1 <= quantity) & (quantity <= VOLUME_MOST))
-}
-
-fn block_rule(zones: usize, zone: usize, side: usize, spare: usize, price: i64) -> bool
-    ensures { λ r. ⌜ r ≡ all (blockRule zones zone side spare price) ⌝ }
-{
-    (zone < zones) & (side <= 1) & (spare == 0) & ((PRICE_LEAST <= price) & (price <= PRICE_MOST))
-}
-
 // ---- rules over a row's bytes: `at` is the place at which the row starts
 
 fn period_ok(part: &[u8], at: usize) -> bool
     requires { ⌜ at + 8 ≤ length (now part) ⌝ }
     ensures { λ r. ⌜ r ≡ all (periodFields (now (part .entry)) at) ⌝ }
 {
-    period_rule(wire::i32_at(part, at), wire::i32_at(part, at + 4))
+    limits::period_rule(wire::i32_at(part, at), wire::i32_at(part, at + 4))
 }
 
 fn code_before(part: &[u8], i: usize, at: usize) -> usize
@@ -121,14 +64,14 @@ fn zone_ok(part: &[u8], i: usize, at: usize) -> bool
     requires { ⌜ (2 ≤ at) × (at + 2 ≤ length (now part)) ⌝ }
     ensures { λ r. ⌜ r ≡ all (zoneFields (now (part .entry)) i at) ⌝ }
 {
-    zone_rule(code_before(part, i, at), wire::u16_at(part, at))
+    limits::zone_rule(code_before(part, i, at), wire::u16_at(part, at))
 }
 
 fn step_ok(part: &[u8], periods: usize, zones: usize, at: usize) -> bool
     requires { ⌜ at + 12 ≤ length (now part) ⌝ }
     ensures { λ r. ⌜ r ≡ all (stepFields periods zones (now (part .entry)) at) ⌝ }
 {
-    step_rule(
+    limits::step_rule(
         zones,
         periods,
         wire::u8_at(part, at),
@@ -157,29 +100,23 @@ fn line_ok(part: &[u8], periods: usize, zones: usize, at: usize) -> bool
     requires { ⌜ (periods ≤ 25) × (at + (2 + 8 * periods) ≤ length (now part)) ⌝ }
     ensures { λ r. ⌜ r ≡ all (lineFields periods zones (now (part .entry)) at) ⌝ }
 {
-    ends_rule(zones, wire::u8_at(part, at), wire::u8_at(part, at + 1))
-        & volumes_within(part, at + 2, 2 * periods, VOLUME_MOST)
+    limits::ends_rule(zones, wire::u8_at(part, at), wire::u8_at(part, at + 1))
+        & volumes_within(part, at + 2, 2 * periods, limits::VOLUME_MOST)
 }
 
 fn block_ok(part: &[u8], periods: usize, zones: usize, at: usize) -> bool
     requires { ⌜ (periods ≤ 25) × (at + (8 + 4 * periods) ≤ length (now part)) ⌝ }
     ensures { λ r. ⌜ r ≡ all (blockFields periods zones (now (part .entry)) at) ⌝ }
 {
-    block_rule(
+    limits::block_rule(
         zones,
         wire::u8_at(part, at),
         wire::u8_at(part, at + 1),
         wire::u16_at(part, at + 2),
         wire::i32_at(part, at + 4),
     )
-        & volumes_within(part, at + 8, periods, VOLUME_MOST)
+        & volumes_within(part, at + 8, periods, limits::VOLUME_MOST)
         & !volumes_within(part, at + 8, periods, 0)
-}
-
-fn between(x: i64, least: i64, most: i64) -> bool
-    ensures { λ r. ⌜ r ≡ (leZ least x && leZ x most) ⌝ }
-{
-    (least <= x) & (x <= most)
 }
 
 // Whether an i32 lies from least to most.
@@ -187,14 +124,14 @@ fn signed_ok(part: &[u8], at: usize, least: i64, most: i64) -> bool
     requires { ⌜ at + 4 ≤ length (now part) ⌝ }
     ensures { λ r. ⌜ r ≡ (leZ least (i32At (now (part .entry)) at) && leZ (i32At (now (part .entry)) at) most) ⌝ }
 {
-    between(wire::i32_at(part, at), least, most)
+    limits::between(wire::i32_at(part, at), least, most)
 }
 
 fn volume_ok(part: &[u8], at: usize) -> bool
     requires { ⌜ at + 4 ≤ length (now part) ⌝ }
     ensures { λ r. ⌜ r ≡ all (volumeFields (now (part .entry)) at) ⌝ }
 {
-    wire::u32_at(part, at) <= VOLUME_MOST
+    wire::u32_at(part, at) <= limits::VOLUME_MOST
 }
 
 fn taken_ok(part: &[u8], at: usize) -> bool
@@ -216,8 +153,8 @@ pub fn row_ok(kind: Kind, periods: usize, zones: usize, part: &[u8], i: usize) -
         Kind::Lines => line_ok(part, periods, zones, at),
         Kind::Steps => step_ok(part, periods, zones, at),
         Kind::Blocks => block_ok(part, periods, zones, at),
-        Kind::Prices => signed_ok(part, at, PRICE_LEAST, PRICE_MOST),
-        Kind::Flows => signed_ok(part, at, FLOW_LEAST, FLOW_MOST),
+        Kind::Prices => signed_ok(part, at, limits::PRICE_LEAST, limits::PRICE_MOST),
+        Kind::Flows => signed_ok(part, at, limits::FLOW_LEAST, limits::FLOW_MOST),
         Kind::Volumes => volume_ok(part, at),
         Kind::Taken => taken_ok(part, at),
     }

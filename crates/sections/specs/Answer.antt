@@ -1,5 +1,5 @@
 -- What the reader of a section answers, and that its answer is the first fault of the section's stages. Assumes nothing.
-use Prim.Native.Nat.{ℕ, zero, suc, _+_, _*_, _<_, _≤_}
+use Prim.Native.Nat.{ℕ, _+_, _*_, _≤_}
 use native.Mathlib.Omega.{arith}
 use mathlib.Core.Path.{_≡_, refl, sym, _∙_, ap}
 use mathlib.Core.Bool.{Bool, true, false, _&&_}
@@ -7,14 +7,14 @@ use mathlib.Core.List.{List, [], _∷_, _++_}
 use lib.Dec.{leb}
 use lib.ListN.{length, drop}
 use borrow.Author.Tests.{leb-true}
-use Rattle.stages.specs.First.{every, firstBad, both}
+use Rattle.stages.specs.First.{firstBad, both}
 use Rattle.stages.specs.Stage.{Stage, once, line, place, faultAt, firstFault, orFault, fault-++}
 use Rattle.stages.specs.Table.{inRow}
 use Rattle.stages.specs.declared.Found.{Found}
 use Rattle.stages.specs.declared.Found.the-variants.{At, Nothing}
 use Rattle.stages.specs.declared.Fault.{Fault}
 use Rattle.stages.specs.declared.Fault.the-variants.{Broken, Clean}
-use Rattle.sections.specs.Section.{Numbers, between, count, section, after, allFrom, all, fields}
+use Rattle.sections.specs.Section.{Numbers, between, count, section, after}
 use Rattle.stages.specs.declared.Place.{Place}
 use Rattle.sections.specs.declared.Reading.{Reading}
 use Rattle.sections.specs.declared.Reading.the-variants.{Good, Refused}
@@ -180,29 +180,3 @@ module _ (least most size : ℕ) (ok : ℕ → Bool) (part : List ℕ) (n : ℕ)
   pub section-rows : firstBad n ok ≡ Nothing
   unfolding sectionOf
   section-rows = head-of ok (headOf least most size part) n e .1
-
--- ---- the tests of a row's fields, joined
-
-&&-assoc : (a b c : Bool) → ((a && b) && c) ≡ (a && (b && c))
-&&-assoc true b c = refl
-&&-assoc false b c = refl
-
-&&-true : (a : Bool) → (a && true) ≡ a
-&&-true true = refl
-&&-true false = refl
-
-from-++ : (b : Bool) (xs ys : List Bool) → allFrom b (xs ++ ys) ≡ allFrom (allFrom b xs) ys
-from-++ b [] ys = refl
-from-++ b (x ∷ xs) ys = from-++ (b && x) xs ys
-
-from-fields : (b : Bool) (n : ℕ) (t : ℕ → Bool) → allFrom b (fields n t) ≡ (b && every n t)
-from-fields b zero t = sym (&&-true b)
-from-fields b (suc n) t = from-++ b (fields n t) (t n ∷ []) ∙ rw (from-fields b n t, &&-assoc)
-
--- some fields, and then n fields of one kind
-pub all-fields : (xs : List Bool) (n : ℕ) (t : ℕ → Bool) → all (xs ++ fields n t) ≡ (all xs && every n t)
-all-fields xs n t = from-++ true xs (fields n t) ∙ from-fields (all xs) n t
-
--- some fields, and then one more
-pub all-one : (xs : List Bool) (b : Bool) → all (xs ++ (b ∷ [])) ≡ (all xs && b)
-all-one xs b = from-++ true xs (b ∷ [])

@@ -47,17 +47,3 @@ onward n place = (place .0, n + place .1)
 -- Bytes after the last section.
 abbrev pub ended : ℕ → List ℕ → List Stage
 ended number part = once number (place 0 0) (leb (length part) 0) ∷ []
-
--- ---- a row's rule: the tests of its fields, in row order
-
-abbrev pub allFrom : Bool → List Bool → Bool
-allFrom b [] = b
-allFrom b (c ∷ cs) = allFrom (b && c) cs
-
-abbrev pub all : List Bool → Bool
-all = allFrom true
-
--- the tests of n fields of one kind
-abbrev pub fields : ℕ → (ℕ → Bool) → List Bool
-fields zero t = []
-fields (suc n) t = fields n t ++ (t n ∷ [])

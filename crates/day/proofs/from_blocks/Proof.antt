@@ -4,7 +4,7 @@ use denote.Ref.{now}
 use borrow.Author.Needs.{needs}
 use Rattle.sections.specs.Section.{ended}
 use Rattle.reader.specs.Chain.{reading-read, fault-returns, handed-on}
-use Rattle.rows.specs.Limits.{mostBlocks}
+use Rattle.limits.specs.Limits.{mostBlocks}
 use Rattle.rows.specs.declared.Kind.the-variants.{Blocks}
 use Rattle.day.specs.Day.{dayNumbers}
 use Rattle.day.specs.Chain.{countsOf}

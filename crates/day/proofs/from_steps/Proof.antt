@@ -3,7 +3,7 @@ use mathlib.Core.Path.{_≡_, sym, _∙_}
 use denote.Ref.{now}
 use borrow.Author.Needs.{needs}
 use Rattle.reader.specs.Chain.{reading-read, fault-returns, handed-on}
-use Rattle.rows.specs.Limits.{mostSteps}
+use Rattle.limits.specs.Limits.{mostSteps}
 use Rattle.rows.specs.declared.Kind.the-variants.{Steps}
 use Rattle.day.specs.Day.{dayNumbers}
 use Rattle.day.specs.Chain.{countsBlocks, fromBlocks}

@@ -6,7 +6,7 @@ use borrow.Author.Needs.{needs}
 use Rattle.reader.specs.Chain.{reading-read, fault-returns, handed-on}
 use Rattle.sections.specs.Answer.{Read}
 use Rattle.rows.specs.Rows.{rowSize}
-use Rattle.rows.specs.Limits.{mostPeriods}
+use Rattle.limits.specs.Limits.{mostPeriods}
 use Rattle.rows.specs.declared.Kind.the-variants.{Periods}
 use Rattle.day.specs.Day.{dayNumbers, dayStages}
 use Rattle.day.specs.Chain.{countsZones, fromZones}

@@ -1,25 +1,21 @@
--- `lookup::read_for` meets its contract. Assumes nothing.
-use native.Mathlib.Omega.{arith}
-use borrow.Author.Tests.{le-leb, lt-leb}
+-- `lookup::read_for` meets its contract: 19 where the section is none, else the day file's answer. Assumes nothing.
+use mathlib.Core.Path.{sym, _∙_}
+use borrow.Author.Tests.{not-true, not-false}
 use borrow.Author.Needs.{needs}
 use Rattle.lookup.proofs.read_for.Statement.{statement}
 use Rattle.lookup.proofs.read_for.Tie as tie
 
-returns : tie.Need-returns
-returns c = simp (lt-leb 1 (c .before .before .args .section) (omega arith))
+is-section-requires : tie.Need-is-section-requires
+is-section-requires c κs = search needs
 
-returns-2 : tie.Need-returns-2
-returns-2 c =
-    let s = c .before .before .before .args .section in
-    simp (le-leb 1 s (omega arith), lt-leb s 5 (omega arith))
+returns : tie.Need-returns
+returns c = rw (sym (c .before .is-section .ensures) ∙ not-true _ (c .if1 .taken))
 
 read-day-requires : tie.Need-read-day-requires
 read-day-requires c κs = search needs
 
-returns-3 : tie.Need-returns-3
-returns-3 c =
-    let s = c .before .before .before .before .args .section in
-    simp (le-leb 1 s (omega arith), le-leb s 5 (omega arith)) (c .read-day .ensures)
+returns-2 : tie.Need-returns-2
+returns-2 c = rw (sym (c .before .before .is-section .ensures) ∙ not-false _ (c .before .if1 .left)) (c .read-day .ensures)
 
 pub read-for-spec : {M : Type 1} → statement M
-read-for-spec = tie.close (tie.spec returns returns-2 read-day-requires returns-3)
+read-for-spec = tie.close (tie.spec is-section-requires returns read-day-requires returns-2)

@@ -5,7 +5,7 @@ use native.Mathlib.Omega.{arith}
 use lib.ListN.{length}
 use denote.Ref.{now}
 use borrow.Author.Needs.{needs}
-use Rattle.sections.specs.Section.{all}
+use Rattle.limits.specs.Fields.{all}
 use Rattle.rows.specs.Rows.{rowSize, rowFields, rowOk}
 use Rattle.rows.specs.Laws.{row-is, row-room}
 use Rattle.rows.specs.declared.Kind.{Kind}
