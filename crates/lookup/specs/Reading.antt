@@ -53,7 +53,8 @@ module _ (section : ℕ) (day : List ℕ) where
   pub found-part : {c : Counts} {x : List ℕ} → dayFileFor section day ≡ Good c → x ≡ rowsOf section day → x ≡ lookUp section day
   found-part e q = rw (clean-for e) q
 
-  pub found-at : {c : Counts} (file : ℕ × ℕ) {x : ℕ × ℕ} → dayFileFor section day ≡ Good c → x ≡ onward (rowsAt section day) file → x ≡ onward (lookUpAt section day) file
+  pub found-at : {c : Counts} (file : ℕ × ℕ) {x : ℕ × ℕ} → dayFileFor section day ≡ Good c → x ≡ onward (rowsAt section day) file →
+      x ≡ onward (lookUpAt section day) file
   found-at file e q = rw (clean-for e) q
 
 -- the rows of a section by its number, and where they start

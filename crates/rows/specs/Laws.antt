@@ -9,7 +9,8 @@ use Rattle.stages.specs.First.{every}
 use Rattle.limits.specs.Fields.{all, fields, all-fields, all-one}
 use Rattle.limits.specs.Rules.{endsRule, blockRule}
 use Rattle.limits.specs.Limits.{isVolume}
-use Rattle.rows.specs.Rows.{from, to, capacity, lineFields, blockZone, blockSide, blockSpare, blockPrice, blockQuantity, empty, blockFields, rowSize, rowFields, rowOk}
+use Rattle.rows.specs.Rows.{rowSize, rowFields, rowOk, from, to, capacity, lineFields}
+use Rattle.rows.specs.Rows.{blockZone, blockSide, blockSpare, blockPrice, blockQuantity, empty, blockFields}
 use Rattle.rows.specs.declared.Kind.{Kind}
 
 module _ (periods zones : ℕ) (part : List ℕ) (at : ℕ) where

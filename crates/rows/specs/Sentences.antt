@@ -17,7 +17,9 @@ use Rattle.stages.specs.declared.Found.{Found}
 use Rattle.stages.specs.declared.Found.the-variants.{At, Nothing}
 use Rattle.limits.specs.Limits.{isPrice, isFlow}
 use Rattle.rows.specs.Laws.{line-split, block-split}
-use Rattle.rows.specs.Rows.{rowStart, floor, ceiling, code, codeBefore, from, to, forward, back, stepZone, stepPeriod, stepSide, stepSpare, stepPrice, stepQuantity, blockZone, blockSide, blockSpare, blockPrice, blockQuantity, rowOk}
+use Rattle.rows.specs.Rows.{rowStart, rowOk, floor, ceiling, code, codeBefore, from, to, forward, back}
+use Rattle.rows.specs.Rows.{stepZone, stepPeriod, stepSide, stepSpare, stepPrice, stepQuantity}
+use Rattle.rows.specs.Rows.{blockZone, blockSide, blockSpare, blockPrice, blockQuantity}
 use Rattle.rows.specs.declared.Kind.the-variants.{Periods, Zones, Lines, Steps, Blocks, Prices, Flows, Volumes, Taken}
 
 -- ---- what is meant

@@ -8,7 +8,8 @@ ghost use lib.Signed.{leZ};
 ghost use Rattle.wire.specs.Bytes.{u32At, i32At};
 ghost use Rattle.stages.specs.First.{every};
 ghost use Rattle.limits.specs.Fields.{all};
-ghost use Rattle.rows.specs.Rows.{rowSize, rowStart, codeBefore, periodFields, zoneFields, lineFields, stepFields, blockFields, volumeFields, takenFields, rowOk};
+ghost use Rattle.rows.specs.Rows.{rowSize, rowOk, codeBefore, periodFields, zoneFields, lineFields, stepFields};
+ghost use Rattle.rows.specs.Rows.{blockFields, volumeFields, takenFields};
 
 // The sections of a day file, and those of a clearing file.
 pub enum Kind {

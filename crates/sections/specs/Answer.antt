@@ -164,11 +164,13 @@ head-of ok CutOff n e = cut-read e
 head-of ok Beyond n e = beyond-read e
 head-of ok (BadRow i) n e = let z : _≡_ {A = ℕ} 0 1 = cc in absurd (omega arith)
 
-pub head-same : (least most : ℕ) (part : List ℕ) {x : Section} {size size′ : ℕ} → size ≡ size′ → x ≡ headOf least most size part → x ≡ headOf least most size′ part
+pub head-same : (least most : ℕ) (part : List ℕ) {x : Section} {size size′ : ℕ} → size ≡ size′ → x ≡ headOf least most size part →
+    x ≡ headOf least most size′ part
 head-same least most part f e = e ∙ rw f
 
 -- the answer of a reader that has read the head
-pub head-section : (least most size : ℕ) (ok : ℕ → Bool) (part : List ℕ) {x : Section} → x ≡ headOf least most size part → withRows ok x ≡ sectionOf least most size ok part
+pub head-section : (least most size : ℕ) (ok : ℕ → Bool) (part : List ℕ) {x : Section} → x ≡ headOf least most size part →
+    withRows ok x ≡ sectionOf least most size ok part
 unfolding sectionOf
 head-section least most size ok part e = ap (withRows ok) e
 

@@ -39,7 +39,8 @@ no-row-yet t cols = record { nowhere = refl }
 pub row-more : {t : ℕ → ℕ → Bool} {cols z i : ℕ} → RowsPassed t cols z → Passed (t z) i → i ≤ cols → cols ≤ i → RowsPassed t cols (z + 1)
 row-more p q l m = record { nowhere = rw (add-one, p .nowhere, ← done q l m) }
 
-stop-row : {t : ℕ → ℕ → Bool} {cols z i : ℕ} (rows : ℕ) → RowsPassed t cols z → Passed (t z) i → t z i ≡ false → i < cols → z < rows → firstCell rows cols t ≡ Cell z i
+stop-row : {t : ℕ → ℕ → Bool} {cols z i : ℕ} (rows : ℕ) → RowsPassed t cols z → Passed (t z) i → t z i ≡ false → i < cols → z < rows →
+    firstCell rows cols t ≡ Cell z i
 stop-row zero p q e l m = absurd (not-suc-le-zero m)
 stop-row {t} {cols} {z} {i} (suc rows) p q e l m =
     last (eq-or-lt-of-le (le-of-suc-le-suc m)) (λ n. stop-row rows p q e l n)
@@ -48,7 +49,8 @@ stop-row {t} {cols} {z} {i} (suc rows) p q e l m =
     last (inl r) h = rw (← r, p .nowhere, ← stop q e l)
     last (inr n) h = rw (h n)
 
-pub stop-cell : {t : ℕ → ℕ → Bool} {cols z i rows : ℕ} → RowsPassed t cols z → Passed (t z) i → t z i ≡ false → i < cols → z < rows → Cell z i ≡ firstCell rows cols t
+pub stop-cell : {t : ℕ → ℕ → Bool} {cols z i rows : ℕ} → RowsPassed t cols z → Passed (t z) i → t z i ≡ false → i < cols → z < rows →
+    Cell z i ≡ firstCell rows cols t
 stop-cell {rows = rows} p q e l m = sym (stop-row rows p q e l m)
 
 pub done-table : {t : ℕ → ℕ → Bool} {cols z rows : ℕ} → RowsPassed t cols z → z ≤ rows → rows ≤ z → Nowhere ≡ firstCell rows cols t
