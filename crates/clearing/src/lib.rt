@@ -5,7 +5,6 @@ use rows::Kind;
 use sections::Reading;
 use stages::Place;
 ghost use mathlib.Core.Path.{_≡_};
-ghost use Prim.Native.Nat.{_≤_};
 ghost use Rattle.sections.specs.Section.{ended};
 ghost use Rattle.reader.specs.Reader.{readingAt};
 ghost use Rattle.day.specs.Good.{InLimits};

@@ -1,8 +1,7 @@
 -- The day file: five sections, and nothing after them. Assumes nothing.
-use Prim.Native.Nat.{ℕ, _+_, _*_}
+use Prim.Native.Nat.{ℕ}
 use mathlib.Core.List.{List, _++_}
 use Rattle.stages.specs.Stage.{Stage, firstFault, answer}
-use Rattle.stages.specs.declared.Place.{Place}
 use Rattle.sections.specs.Section.{Numbers, count, after, ended}
 use Rattle.limits.specs.Limits.{mostPeriods, mostZones, mostLines, mostSteps, mostBlocks}
 use Rattle.rows.specs.Rows.{rowSize}

@@ -2,7 +2,7 @@
 use Prim.Native.Nat.{ℕ, _+_, _*_, _<_, _≤_}
 use native.Mathlib.Nat.{mul-le-mul}
 use native.Mathlib.Omega.{arith}
-use mathlib.Core.Path.{_≡_, refl, sym, ap, _∙_}
+use mathlib.Core.Path.{_≡_, refl, sym, _∙_}
 use mathlib.Core.Logic.{_↔_}
 use mathlib.Core.List.{List}
 use lib.ListN.{length}
@@ -10,12 +10,11 @@ use Rattle.stages.specs.Stage.{Means, firstFault, answer, answer-good, answer-b
 use Rattle.stages.specs.declared.Place.{Place}
 use Rattle.stages.specs.declared.Fault.{Fault}
 use Rattle.stages.specs.declared.Fault.the-variants.{Broken, Clean}
-use Rattle.sections.specs.Section.{count, after, ended}
-use Rattle.sections.specs.Good.{GoodSection, ended-clean, part-length}
+use Rattle.sections.specs.Section.{count, ended}
+use Rattle.sections.specs.Good.{ended-clean, part-length}
 use Rattle.limits.specs.Limits.{mostPeriods, mostZones, mostLines, mostSteps, mostBlocks}
 use Rattle.rows.specs.Rows.{rowSize, rowStart}
 use Rattle.rows.specs.Sentences.{PeriodRow, ZoneRow, LineRow, StepRow, BlockRow, period-row, zone-row, line-row, step-row, block-row}
-use Rattle.rows.specs.declared.Kind.{Kind}
 use Rattle.rows.specs.declared.Kind.the-variants.{Periods, Zones, Lines, Steps, Blocks}
 use Rattle.reader.specs.Reader.{GoodRows}
 use Rattle.reader.specs.Chain.{then-clean}

@@ -19,7 +19,7 @@ use Rattle.stages.specs.declared.Fault.the-variants.{Broken, Clean}
 use Rattle.sections.specs.Section.{count, rows, onward}
 use Rattle.rows.specs.Rows.{rowSize}
 use Rattle.rows.specs.declared.Kind.the-variants.{Periods, Zones, Lines, Steps, Blocks}
-use Rattle.day.specs.Day.{periods, zonesPart, linesPart, stepsPart, blocksPart, dayStages}
+use Rattle.day.specs.Day.{periods, zonesPart, linesPart, stepsPart, blocksPart}
 use Rattle.day.specs.Good.{GoodDay, day-clean}
 use Rattle.parts.specs.Of.{zonesAt, linesAt, stepsAt, blocksAt}
 use Rattle.lookup.specs.LookUp.{pick, rowsOf, rowsAt, lookUpStages, lookUp, lookUpAt}

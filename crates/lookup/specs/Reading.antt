@@ -2,10 +2,9 @@
 use Prim.Native.Nat.{ℕ, _+_}
 use native.Mathlib.Nat.{add-assoc}
 use native.Mathlib.Omega.{arith}
-use mathlib.Core.Path.{_≡_, refl, sym, ap, subst, _∙_}
-use mathlib.Core.Logic.{_↔_}
+use mathlib.Core.Path.{_≡_, refl, sym, ap, _∙_}
 use mathlib.Core.List.{List, []}
-use Rattle.stages.specs.Stage.{Means, means, firstFault, answer}
+use Rattle.stages.specs.Stage.{means, firstFault, answer}
 use Rattle.stages.specs.declared.Place.{Place}
 use Rattle.stages.specs.declared.Fault.{Fault}
 use Rattle.stages.specs.declared.Fault.the-variants.{Broken, Clean}
@@ -13,8 +12,8 @@ use Rattle.sections.specs.Section.{onward}
 use Rattle.day.specs.declared.Counts.{Counts}
 use Rattle.day.specs.declared.DayFile.{DayFile}
 use Rattle.day.specs.declared.DayFile.the-variants.{Good, Bad}
-use Rattle.day.specs.Day.{counts, dayStages}
-use Rattle.day.specs.Good.{GoodDay, day-clean}
+use Rattle.day.specs.Day.{counts}
+use Rattle.day.specs.Good.{day-clean}
 use Rattle.parts.specs.Of.{OfDay}
 use Rattle.lookup.specs.LookUp.{rowsOf, rowsAt, lookUpStages, lookUp, lookUpAt}
 

@@ -1,11 +1,10 @@
 -- The rows of the sections of both files: how long they are, where their fields stand, and their rules, field by field in row order.
 -- `part` is the file from the section's count on, and `at` the place in it at which the row starts. Assumes nothing.
 use Prim.Native.Nat.{ℕ, _+_, _*_, _-_}
-use mathlib.Core.Bool.{Bool, true, false, _&&_, not}
+use mathlib.Core.Bool.{Bool, true, false, not}
 use mathlib.Core.List.{List, [], _∷_, _++_}
-use lib.Dec.{leb, ltb, eqb}
+use lib.Dec.{leb, eqb}
 use lib.IntN.{ℤ}
-use lib.Signed.{leZ}
 use Rattle.wire.specs.Bytes.{u8At, u16At, u32At, i32At}
 use Rattle.stages.specs.First.{every}
 use Rattle.limits.specs.Fields.{all, fields}

@@ -1,8 +1,7 @@
 -- What a section that reads without fault guarantees, as a sentence. Assumes nothing.
-use Prim.Native.Nat.{ℕ, zero, suc, _+_, _*_, _-_, _<_, _≤_}
-use native.Mathlib.Nat.{not-suc-le-zero, le-antisymm}
+use Prim.Native.Nat.{ℕ, _+_, _*_, _<_, _≤_}
 use native.Mathlib.Omega.{arith}
-use mathlib.Core.Path.{_≡_, refl, sym, _∙_}
+use mathlib.Core.Path.{_≡_}
 use mathlib.Core.Logic.{_↔_}
 use mathlib.Core.Bool.{Bool, true}
 use mathlib.Core.List.{List}

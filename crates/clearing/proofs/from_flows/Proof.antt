@@ -1,5 +1,5 @@
 -- `clearing::from_flows` meets its contract: a fault of the section is the file's, and what is left is handed on. Assumes nothing.
-use mathlib.Core.Path.{_≡_, sym, _∙_}
+use mathlib.Core.Path.{sym, _∙_}
 use Prim.Native.Nat.{_*_, _≤_}
 use native.Mathlib.Nat.{mul-le-mul}
 use native.Mathlib.Omega.{arith}

@@ -1,5 +1,5 @@
 -- `clearing::from_volumes` meets its contract: a fault of the section is the file's, and what is left is handed on. Assumes nothing.
-use mathlib.Core.Path.{_≡_, sym, _∙_}
+use mathlib.Core.Path.{sym, _∙_}
 use native.Mathlib.Omega.{arith}
 use denote.Ref.{now}
 use borrow.Author.Needs.{needs}

@@ -1,5 +1,5 @@
 -- `clearing::read_files` meets its contract: the day file before the clearing file. Assumes nothing.
-use mathlib.Core.Path.{_≡_, sym, _∙_, subst}
+use mathlib.Core.Path.{sym, _∙_, subst}
 use denote.Ref.{now}
 use Rattle.day.specs.Good.{InLimits, in-limits, good-counts}
 use Rattle.clearing.specs.Chain.{day-first, then-clearing}

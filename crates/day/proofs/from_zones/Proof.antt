@@ -1,5 +1,5 @@
 -- `day::from_zones` meets its contract: a fault of the section is the file's, and what is left is handed on. Assumes nothing.
-use mathlib.Core.Path.{_≡_, sym, _∙_}
+use mathlib.Core.Path.{sym, _∙_}
 use denote.Ref.{now}
 use borrow.Author.Needs.{needs}
 use Rattle.reader.specs.Chain.{reading-read, fault-returns, handed-on}

@@ -1,5 +1,4 @@
 -- `sections::read_head` meets its contract: each answer, by the tests that led to it. Assumes nothing.
-use mathlib.Core.Path.{_≡_}
 use Prim.Native.Nat.{_≤_, _*_, _+_}
 use native.Mathlib.Omega.{arith}
 use native.Mathlib.Nat.{mul-le-mul}
