@@ -16,7 +16,8 @@ use Rattle.clearing.proofs.from_flows.Tie as tie
 mul-read-section : tie.Need-mul-read-section
 mul-read-section c =
     let a = c .before .before .args in
-    let m : a .counts .lines * a .counts .periods ≤ 16 * 25 = mul-le-mul {n₂ = 16} {m₂ = 25} (omega (arith, c .before .before .pre)) (omega (arith, c .before .before .pre)) in
+    let m : a .counts .lines * a .counts .periods ≤ 16 * 25 =
+    mul-le-mul {n₂ = 16} {m₂ = 25} (omega (arith, c .before .before .pre)) (omega (arith, c .before .before .pre)) in
     omega arith
 
 read-section-requires : tie.Need-read-section-requires
@@ -31,7 +32,8 @@ enum-known-n c = search needs
 rest-requires : tie.Need-rest-requires
 rest-requires c κs =
     let a = c .before .before .before .before .before .before .args in
-    let r = reading-read clearingNumbers 2 Flows (a .counts .lines * a .counts .periods) (a .counts .lines * a .counts .periods) 0 0 (now (a .part)) (sym (c .before .before .before .read-section .ensures) ∙ c .before .n .given .1) in
+    let r = reading-read clearingNumbers 2 Flows (a .counts .lines * a .counts .periods) (a .counts .lines * a .counts .periods) 0 0 (now (a .part))
+    (sym (c .before .before .before .read-section .ensures) ∙ c .before .n .given .1) in
     (omega arith, (r .counted, r .room))
 
 from-volumes-requires : tie.Need-from-volumes-requires
@@ -40,12 +42,16 @@ from-volumes-requires c κs = search needs
 returns : tie.Need-returns
 returns c =
     let a = c .before .before .before .before .before .before .args in
-    fault-returns clearingNumbers 2 Flows (a .counts .lines * a .counts .periods) (a .counts .lines * a .counts .periods) 0 0 (now (a .part)) Bad (λ left n. Good (a .counts)) (λ left n. fromVolumes (a .counts) left) (sym (c .before .before .before .read-section .ensures) ∙ c .before .k .given .1)
+    fault-returns clearingNumbers 2 Flows (a .counts .lines * a .counts .periods) (a .counts .lines * a .counts .periods) 0 0 (now (a .part))
+    Bad (λ left n. Good (a .counts)) (λ left n. fromVolumes (a .counts) left)
+    (sym (c .before .before .before .read-section .ensures) ∙ c .before .k .given .1)
 
 returns-2 : tie.Need-returns-2
 returns-2 c =
     let a = c .before .before .before .before .before .before .before .before .args in
-    handed-on clearingNumbers 2 Flows (a .counts .lines * a .counts .periods) (a .counts .lines * a .counts .periods) 0 0 (now (a .part)) Bad (λ left n. Good (a .counts)) (λ left n. fromVolumes (a .counts) left) (sym (c .before .before .before .before .before .read-section .ensures) ∙ c .before .before .before .n .given .1) (c .before .rest .ensures .0) (c .from-volumes .ensures)
+    handed-on clearingNumbers 2 Flows (a .counts .lines * a .counts .periods) (a .counts .lines * a .counts .periods) 0 0 (now (a .part))
+    Bad (λ left n. Good (a .counts)) (λ left n. fromVolumes (a .counts) left)
+    (sym (c .before .before .before .before .before .read-section .ensures) ∙ c .before .before .before .n .given .1) (c .before .rest .ensures .0) (c .from-volumes .ensures)
 
 pub from-flows-spec : {M : Type 1} → statement M
 from-flows-spec =

@@ -23,7 +23,8 @@ enum-known-n c = search needs
 rest-requires : tie.Need-rest-requires
 rest-requires c κs =
     let a = c .before .before .before .before .before .args in
-    let r = reading-read clearingNumbers 3 Volumes (a .counts .steps) (a .counts .steps) 0 0 (now (a .part)) (sym (c .before .before .before .read-section .ensures) ∙ c .before .n .given .1) in
+    let r = reading-read clearingNumbers 3 Volumes (a .counts .steps) (a .counts .steps) 0 0 (now (a .part))
+    (sym (c .before .before .before .read-section .ensures) ∙ c .before .n .given .1) in
     (omega arith, (r .counted, r .room))
 
 from-taken-requires : tie.Need-from-taken-requires
@@ -32,12 +33,16 @@ from-taken-requires c κs = search needs
 returns : tie.Need-returns
 returns c =
     let a = c .before .before .before .before .before .args in
-    fault-returns clearingNumbers 3 Volumes (a .counts .steps) (a .counts .steps) 0 0 (now (a .part)) Bad (λ left n. Good (a .counts)) (λ left n. fromTaken (a .counts) left) (sym (c .before .before .before .read-section .ensures) ∙ c .before .k .given .1)
+    fault-returns clearingNumbers 3 Volumes (a .counts .steps) (a .counts .steps) 0 0 (now (a .part))
+    Bad (λ left n. Good (a .counts)) (λ left n. fromTaken (a .counts) left)
+    (sym (c .before .before .before .read-section .ensures) ∙ c .before .k .given .1)
 
 returns-2 : tie.Need-returns-2
 returns-2 c =
     let a = c .before .before .before .before .before .before .before .args in
-    handed-on clearingNumbers 3 Volumes (a .counts .steps) (a .counts .steps) 0 0 (now (a .part)) Bad (λ left n. Good (a .counts)) (λ left n. fromTaken (a .counts) left) (sym (c .before .before .before .before .before .read-section .ensures) ∙ c .before .before .before .n .given .1) (c .before .rest .ensures .0) (c .from-taken .ensures)
+    handed-on clearingNumbers 3 Volumes (a .counts .steps) (a .counts .steps) 0 0 (now (a .part))
+    Bad (λ left n. Good (a .counts)) (λ left n. fromTaken (a .counts) left)
+    (sym (c .before .before .before .before .before .read-section .ensures) ∙ c .before .before .before .n .given .1) (c .before .rest .ensures .0) (c .from-taken .ensures)
 
 pub from-volumes-spec : {M : Type 1} → statement M
 from-volumes-spec =

@@ -16,7 +16,8 @@ use Rattle.clearing.proofs.read_clearing.Tie as tie
 mul-read-section : tie.Need-mul-read-section
 mul-read-section c =
     let a = c .before .before .args in
-    let m : a .counts .zones * a .counts .periods ≤ 8 * 25 = mul-le-mul {n₂ = 8} {m₂ = 25} (omega (arith, c .before .before .pre)) (omega (arith, c .before .before .pre)) in
+    let m : a .counts .zones * a .counts .periods ≤ 8 * 25 =
+    mul-le-mul {n₂ = 8} {m₂ = 25} (omega (arith, c .before .before .pre)) (omega (arith, c .before .before .pre)) in
     omega arith
 
 read-section-requires : tie.Need-read-section-requires
@@ -31,7 +32,8 @@ enum-known-n c = search needs
 rest-requires : tie.Need-rest-requires
 rest-requires c κs =
     let a = c .before .before .before .before .before .before .args in
-    let r = reading-read clearingNumbers 1 Prices (a .counts .zones * a .counts .periods) (a .counts .zones * a .counts .periods) 0 0 (now (a .clearing)) (sym (c .before .before .before .read-section .ensures) ∙ c .before .n .given .1) in
+    let r = reading-read clearingNumbers 1 Prices (a .counts .zones * a .counts .periods) (a .counts .zones * a .counts .periods) 0 0 (now (a .clearing))
+    (sym (c .before .before .before .read-section .ensures) ∙ c .before .n .given .1) in
     (omega arith, (r .counted, r .room))
 
 from-flows-requires : tie.Need-from-flows-requires
@@ -41,13 +43,17 @@ returns : tie.Need-returns
 unfolding clearingStages
 returns c =
     let a = c .before .before .before .before .before .before .args in
-    fault-returns clearingNumbers 1 Prices (a .counts .zones * a .counts .periods) (a .counts .zones * a .counts .periods) 0 0 (now (a .clearing)) Bad (λ left n. Good (a .counts)) (λ left n. fromFlows (a .counts) left) (sym (c .before .before .before .read-section .ensures) ∙ c .before .k .given .1)
+    fault-returns clearingNumbers 1 Prices (a .counts .zones * a .counts .periods) (a .counts .zones * a .counts .periods) 0 0 (now (a .clearing))
+    Bad (λ left n. Good (a .counts)) (λ left n. fromFlows (a .counts) left)
+    (sym (c .before .before .before .read-section .ensures) ∙ c .before .k .given .1)
 
 returns-2 : tie.Need-returns-2
 unfolding clearingStages
 returns-2 c =
     let a = c .before .before .before .before .before .before .before .before .args in
-    handed-on clearingNumbers 1 Prices (a .counts .zones * a .counts .periods) (a .counts .zones * a .counts .periods) 0 0 (now (a .clearing)) Bad (λ left n. Good (a .counts)) (λ left n. fromFlows (a .counts) left) (sym (c .before .before .before .before .before .read-section .ensures) ∙ c .before .before .before .n .given .1) (c .before .rest .ensures .0) (c .from-flows .ensures)
+    handed-on clearingNumbers 1 Prices (a .counts .zones * a .counts .periods) (a .counts .zones * a .counts .periods) 0 0 (now (a .clearing))
+    Bad (λ left n. Good (a .counts)) (λ left n. fromFlows (a .counts) left)
+    (sym (c .before .before .before .before .before .read-section .ensures) ∙ c .before .before .before .n .given .1) (c .before .rest .ensures .0) (c .from-flows .ensures)
 
 pub read-clearing-spec : {M : Type 1} → statement M
 read-clearing-spec =

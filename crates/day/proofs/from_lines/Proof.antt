@@ -23,7 +23,8 @@ enum-known-lines c = search needs
 rest-requires : tie.Need-rest-requires
 rest-requires c κs =
     let a = c .before .before .before .before .before .args in
-    let r = reading-read dayNumbers 3 Lines 0 mostLines (a .periods) (a .zones) (now (a .part)) (sym (c .before .before .before .read-section .ensures) ∙ c .before .lines .given .1) in
+    let r = reading-read dayNumbers 3 Lines 0 mostLines (a .periods) (a .zones) (now (a .part))
+    (sym (c .before .before .before .read-section .ensures) ∙ c .before .lines .given .1) in
     (c .before .before .before .before .before .pre, (r .counted, r .room))
 
 from-steps-requires : tie.Need-from-steps-requires
@@ -32,12 +33,16 @@ from-steps-requires c κs = c .before .before .before .before .before .before .p
 returns : tie.Need-returns
 returns c =
     let a = c .before .before .before .before .before .args in
-    fault-returns dayNumbers 3 Lines 0 mostLines (a .periods) (a .zones) (now (a .part)) Bad (λ left n. Good (countsSteps (a .periods) (a .zones) n left)) (λ left n. fromSteps (a .periods) (a .zones) left) (sym (c .before .before .before .read-section .ensures) ∙ c .before .k .given .1)
+    fault-returns dayNumbers 3 Lines 0 mostLines (a .periods) (a .zones) (now (a .part))
+    Bad (λ left n. Good (countsSteps (a .periods) (a .zones) n left)) (λ left n. fromSteps (a .periods) (a .zones) left)
+    (sym (c .before .before .before .read-section .ensures) ∙ c .before .k .given .1)
 
 returns-2 : tie.Need-returns-2
 returns-2 c =
     let a = c .before .before .before .before .before .before .before .args in
-    handed-on dayNumbers 3 Lines 0 mostLines (a .periods) (a .zones) (now (a .part)) Bad (λ left n. Good (countsSteps (a .periods) (a .zones) n left)) (λ left n. fromSteps (a .periods) (a .zones) left) (sym (c .before .before .before .before .before .read-section .ensures) ∙ c .before .before .before .lines .given .1) (c .before .rest .ensures .0) (c .from-steps .ensures)
+    handed-on dayNumbers 3 Lines 0 mostLines (a .periods) (a .zones) (now (a .part))
+    Bad (λ left n. Good (countsSteps (a .periods) (a .zones) n left)) (λ left n. fromSteps (a .periods) (a .zones) left)
+    (sym (c .before .before .before .before .before .read-section .ensures) ∙ c .before .before .before .lines .given .1) (c .before .rest .ensures .0) (c .from-steps .ensures)
 
 pub from-lines-spec : {M : Type 1} → statement M
 from-lines-spec =

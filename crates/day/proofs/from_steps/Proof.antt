@@ -23,7 +23,8 @@ enum-known-steps c = search needs
 rest-requires : tie.Need-rest-requires
 rest-requires c κs =
     let a = c .before .before .before .before .before .args in
-    let r = reading-read dayNumbers 4 Steps 0 mostSteps (a .periods) (a .zones) (now (a .part)) (sym (c .before .before .before .read-section .ensures) ∙ c .before .steps .given .1) in
+    let r = reading-read dayNumbers 4 Steps 0 mostSteps (a .periods) (a .zones) (now (a .part))
+    (sym (c .before .before .before .read-section .ensures) ∙ c .before .steps .given .1) in
     (c .before .before .before .before .before .pre, (r .counted, r .room))
 
 from-blocks-requires : tie.Need-from-blocks-requires
@@ -32,12 +33,16 @@ from-blocks-requires c κs = c .before .before .before .before .before .before .
 returns : tie.Need-returns
 returns c =
     let a = c .before .before .before .before .before .args in
-    fault-returns dayNumbers 4 Steps 0 mostSteps (a .periods) (a .zones) (now (a .part)) Bad (λ left n. Good (countsBlocks (a .periods) (a .zones) (a .lines) n left)) (λ left n. fromBlocks (a .periods) (a .zones) left) (sym (c .before .before .before .read-section .ensures) ∙ c .before .k .given .1)
+    fault-returns dayNumbers 4 Steps 0 mostSteps (a .periods) (a .zones) (now (a .part))
+    Bad (λ left n. Good (countsBlocks (a .periods) (a .zones) (a .lines) n left)) (λ left n. fromBlocks (a .periods) (a .zones) left)
+    (sym (c .before .before .before .read-section .ensures) ∙ c .before .k .given .1)
 
 returns-2 : tie.Need-returns-2
 returns-2 c =
     let a = c .before .before .before .before .before .before .before .args in
-    handed-on dayNumbers 4 Steps 0 mostSteps (a .periods) (a .zones) (now (a .part)) Bad (λ left n. Good (countsBlocks (a .periods) (a .zones) (a .lines) n left)) (λ left n. fromBlocks (a .periods) (a .zones) left) (sym (c .before .before .before .before .before .read-section .ensures) ∙ c .before .before .before .steps .given .1) (c .before .rest .ensures .0) (c .from-blocks .ensures)
+    handed-on dayNumbers 4 Steps 0 mostSteps (a .periods) (a .zones) (now (a .part))
+    Bad (λ left n. Good (countsBlocks (a .periods) (a .zones) (a .lines) n left)) (λ left n. fromBlocks (a .periods) (a .zones) left)
+    (sym (c .before .before .before .before .before .read-section .ensures) ∙ c .before .before .before .steps .given .1) (c .before .rest .ensures .0) (c .from-blocks .ensures)
 
 pub from-steps-spec : {M : Type 1} → statement M
 from-steps-spec =

@@ -23,7 +23,8 @@ enum-known-zones c = search needs
 rest-requires : tie.Need-rest-requires
 rest-requires c κs =
     let a = c .before .before .before .before .before .args in
-    let r = reading-read dayNumbers 2 Zones 1 mostZones (a .periods) 0 (now (a .part)) (sym (c .before .before .before .read-section .ensures) ∙ c .before .zones .given .1) in
+    let r = reading-read dayNumbers 2 Zones 1 mostZones (a .periods) 0 (now (a .part))
+    (sym (c .before .before .before .read-section .ensures) ∙ c .before .zones .given .1) in
     (c .before .before .before .before .before .pre, (r .counted, r .room))
 
 from-lines-requires : tie.Need-from-lines-requires
@@ -32,12 +33,16 @@ from-lines-requires c κs = c .before .before .before .before .before .before .p
 returns : tie.Need-returns
 returns c =
     let a = c .before .before .before .before .before .args in
-    fault-returns dayNumbers 2 Zones 1 mostZones (a .periods) 0 (now (a .part)) Bad (λ left n. Good (countsLines (a .periods) n left)) (λ left n. fromLines (a .periods) n left) (sym (c .before .before .before .read-section .ensures) ∙ c .before .k .given .1)
+    fault-returns dayNumbers 2 Zones 1 mostZones (a .periods) 0 (now (a .part))
+    Bad (λ left n. Good (countsLines (a .periods) n left)) (λ left n. fromLines (a .periods) n left)
+    (sym (c .before .before .before .read-section .ensures) ∙ c .before .k .given .1)
 
 returns-2 : tie.Need-returns-2
 returns-2 c =
     let a = c .before .before .before .before .before .before .before .args in
-    handed-on dayNumbers 2 Zones 1 mostZones (a .periods) 0 (now (a .part)) Bad (λ left n. Good (countsLines (a .periods) n left)) (λ left n. fromLines (a .periods) n left) (sym (c .before .before .before .before .before .read-section .ensures) ∙ c .before .before .before .zones .given .1) (c .before .rest .ensures .0) (c .from-lines .ensures)
+    handed-on dayNumbers 2 Zones 1 mostZones (a .periods) 0 (now (a .part))
+    Bad (λ left n. Good (countsLines (a .periods) n left)) (λ left n. fromLines (a .periods) n left)
+    (sym (c .before .before .before .before .before .read-section .ensures) ∙ c .before .before .before .zones .given .1) (c .before .rest .ensures .0) (c .from-lines .ensures)
 
 pub from-zones-spec : {M : Type 1} → statement M
 from-zones-spec =

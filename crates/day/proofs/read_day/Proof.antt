@@ -38,13 +38,17 @@ returns : tie.Need-returns
 unfolding dayStages
 returns c =
     let a = c .before .before .before .before .before .args in
-    fault-returns dayNumbers 1 Periods 1 mostPeriods 0 0 (now (a .file)) Bad (λ left n. Good (countsZones n left)) (λ left n. fromZones n left) (sym (c .before .before .before .read-section .ensures) ∙ c .before .k .given .1)
+    fault-returns dayNumbers 1 Periods 1 mostPeriods 0 0 (now (a .file))
+    Bad (λ left n. Good (countsZones n left)) (λ left n. fromZones n left)
+    (sym (c .before .before .before .read-section .ensures) ∙ c .before .k .given .1)
 
 returns-2 : tie.Need-returns-2
 unfolding dayStages
 returns-2 c =
     let a = c .before .before .before .before .before .before .before .args in
-    handed-on dayNumbers 1 Periods 1 mostPeriods 0 0 (now (a .file)) Bad (λ left n. Good (countsZones n left)) (λ left n. fromZones n left) (sym (c .before .before .before .before .before .read-section .ensures) ∙ c .before .before .before .periods .given .1) (c .before .rest .ensures .0) (c .from-zones .ensures)
+    handed-on dayNumbers 1 Periods 1 mostPeriods 0 0 (now (a .file))
+    Bad (λ left n. Good (countsZones n left)) (λ left n. fromZones n left)
+    (sym (c .before .before .before .before .before .read-section .ensures) ∙ c .before .before .before .periods .given .1) (c .before .rest .ensures .0) (c .from-zones .ensures)
 
 pub read-day-spec : {M : Type 1} → statement M
 read-day-spec =

@@ -18,7 +18,11 @@ period-rule-requires : tie.Need-period-rule-requires
 period-rule-requires c κs = search needs
 
 returns : tie.Need-returns
-returns c = cc (toZ-ofZ w64 (c .before .before .i32-at .result) (record { sfits = c .before .before .i32-at .ok }), toZ-ofZ w64 (c .before .i32-at2 .result) (record { sfits = c .before .i32-at2 .ok }))
+returns c =
+    cc (
+      toZ-ofZ w64 (c .before .before .i32-at .result) (record { sfits = c .before .before .i32-at .ok }),
+      toZ-ofZ w64 (c .before .i32-at2 .result) (record { sfits = c .before .i32-at2 .ok }),
+    )
 
 pub period-ok-spec : {M : Type 1} → statement M
 period-ok-spec =
