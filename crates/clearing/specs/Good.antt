@@ -13,6 +13,7 @@ use Rattle.stages.specs.declared.Fault.the-variants.{Broken, Clean}
 use Rattle.sections.specs.Section.{count, after, ended}
 use Rattle.sections.specs.Good.{ended-clean, part-length}
 use Rattle.wire.specs.Bytes.{u8At, u32At, i32At}
+use Rattle.limits.specs.Limits.{mostVolume}
 use Rattle.rows.specs.Rows.{rowSize, rowStart}
 use Rattle.rows.specs.Sentences.{IsPrice, IsFlow, price-row, flow-row, volume-row, taken-row}
 use Rattle.rows.specs.declared.Kind.{Kind}
@@ -105,6 +106,15 @@ files-fault day clearing = by (firstFault (fileStages day clearing))
     by Clean = refl
     by (Broken k p) = refl
 
+-- the counts of a good answer are the day file's
+pub good-files : (day clearing : List ℕ) (c : Counts) → files day clearing ≡ Good c → (counts day ≡ c) × (GoodDay day × GoodClearing (counts day) clearing)
+good-files day clearing c e = by (firstFault (fileStages day clearing)) refl e
+  where
+    by : (f : Fault) → firstFault (fileStages day clearing) ≡ f → answer (Good (counts day)) Bad f ≡ Good c →
+        (counts day ≡ c) × (GoodDay day × GoodClearing (counts day) clearing)
+    by Clean q r = (cc, files-good day clearing .0 (rw q))
+    by (Broken k p) q r = absurd (not-good k p r)
+
 -- the contract of `read_files` allows one answer
 pub one-files-answer : (day clearing : List ℕ) {r s : Files} → r ≡ files day clearing → s ≡ files day clearing → r ≡ s
 one-files-answer day clearing p q = p ∙ sym q
@@ -149,7 +159,7 @@ module _ {c : Counts} {clearing : List ℕ} (g : GoodClearing c clearing) {i : �
   pub good-flow : i < c .lines * c .periods → IsFlow (i32At (flowsPart clearing) (rowStart Flows 0 i))
   good-flow l = flow-row 0 0 (flowsPart clearing) i .0 (g .flows-good .rows i (rw (asked-is Flows (g .flows-good)) l))
 
-  pub good-volume : i < c .steps → u32At (volumesPart clearing) (rowStart Volumes 0 i) ≤ 1000000
+  pub good-volume : i < c .steps → u32At (volumesPart clearing) (rowStart Volumes 0 i) ≤ mostVolume
   good-volume l = volume-row 0 0 (volumesPart clearing) i .0 (g .volumes-good .rows i (rw (asked-is Volumes (g .volumes-good)) l))
 
   pub good-taken : i < c .blocks → u8At (takenPart clearing) (rowStart Taken 0 i) ≤ 1

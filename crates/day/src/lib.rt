@@ -4,6 +4,7 @@ use sections::Reading;
 use stages::Place;
 ghost use mathlib.Core.Path.{_≡_};
 ghost use Prim.Native.Nat.{_≤_};
+ghost use Rattle.limits.specs.Limits.{mostPeriods};
 ghost use Rattle.sections.specs.Section.{ended};
 ghost use Rattle.reader.specs.Reader.{readingAt};
 ghost use Rattle.day.specs.Day.{dayNumbers, dayFile};
@@ -33,7 +34,7 @@ fn read_section(
     zones: usize,
     part: &[u8],
 ) -> Reading
-    requires { ⌜ periods ≤ 25 ⌝ }
+    requires { ⌜ periods ≤ mostPeriods ⌝ }
     ensures { λ r. ⌜ r ≡ readingAt dayNumbers number kind least most periods zones (now (part .entry)) ⌝ }
 {
     sections::named(
@@ -63,7 +64,7 @@ fn from_end(part: &[u8], counts: Counts) -> DayFile
 }
 
 fn from_blocks(part: &[u8], periods: usize, zones: usize, lines: usize, steps: usize) -> DayFile
-    requires { ⌜ periods ≤ 25 ⌝ }
+    requires { ⌜ periods ≤ mostPeriods ⌝ }
     ensures { λ r. ⌜ r ≡ fileFrom (countsBlocks periods zones lines steps (now (part .entry))) (fromBlocks periods zones (now (part .entry))) ⌝ }
 {
     match read_section(
@@ -90,7 +91,7 @@ fn from_blocks(part: &[u8], periods: usize, zones: usize, lines: usize, steps: u
 }
 
 fn from_steps(part: &[u8], periods: usize, zones: usize, lines: usize) -> DayFile
-    requires { ⌜ periods ≤ 25 ⌝ }
+    requires { ⌜ periods ≤ mostPeriods ⌝ }
     ensures { λ r. ⌜ r ≡ fileFrom (countsSteps periods zones lines (now (part .entry))) (fromSteps periods zones (now (part .entry))) ⌝ }
 {
     match read_section(4, Kind::Steps, 0, limits::MOST_STEPS, periods, zones, part) {
@@ -108,7 +109,7 @@ fn from_steps(part: &[u8], periods: usize, zones: usize, lines: usize) -> DayFil
 }
 
 fn from_lines(part: &[u8], periods: usize, zones: usize) -> DayFile
-    requires { ⌜ periods ≤ 25 ⌝ }
+    requires { ⌜ periods ≤ mostPeriods ⌝ }
     ensures { λ r. ⌜ r ≡ fileFrom (countsLines periods zones (now (part .entry))) (fromLines periods zones (now (part .entry))) ⌝ }
 {
     match read_section(3, Kind::Lines, 0, limits::MOST_LINES, periods, zones, part) {
@@ -125,7 +126,7 @@ fn from_lines(part: &[u8], periods: usize, zones: usize) -> DayFile
 }
 
 fn from_zones(part: &[u8], periods: usize) -> DayFile
-    requires { ⌜ periods ≤ 25 ⌝ }
+    requires { ⌜ periods ≤ mostPeriods ⌝ }
     ensures { λ r. ⌜ r ≡ fileFrom (countsZones periods (now (part .entry))) (fromZones periods (now (part .entry))) ⌝ }
 {
     match read_section(2, Kind::Zones, 1, limits::MOST_ZONES, periods, 0, part) {

@@ -2,7 +2,7 @@
 use Prim.Native.Nat.{ℕ}
 use mathlib.Core.Bool.{Bool, _&&_}
 use lib.Dec.{leb}
-use lib.IntN.{ℤ, pos, negsuc}
+use lib.IntN.{ℤ, pos, negℤ}
 use lib.Signed.{leZ}
 
 -- the most rows of a section; there is at least one period and one zone
@@ -21,18 +21,28 @@ mostSteps = 2000
 abbrev pub mostBlocks : ℕ
 mostBlocks = 100
 
+-- the highest price, the largest flow, and the largest volume, which is also the largest quantity and the largest capacity
+abbrev pub mostPrice : ℕ
+mostPrice = 1000000
+
+abbrev pub mostFlow : ℕ
+mostFlow = 1000000
+
+abbrev pub mostVolume : ℕ
+mostVolume = 1000000
+
 -- any price: -1,000,000 to 1,000,000
 abbrev pub isPrice : ℤ → Bool
-isPrice p = leZ (negsuc 999999) p && leZ p (pos 1000000)
+isPrice p = leZ (negℤ (pos mostPrice)) p && leZ p (pos mostPrice)
 
 -- any flow: -1,000,000 to 1,000,000
 abbrev pub isFlow : ℤ → Bool
-isFlow f = leZ (negsuc 999999) f && leZ f (pos 1000000)
+isFlow f = leZ (negℤ (pos mostFlow)) f && leZ f (pos mostFlow)
 
 -- accepted volume, block quantity in a period, line capacity: 0 to 1,000,000
 abbrev pub isVolume : ℕ → Bool
-isVolume v = leb v 1000000
+isVolume v = leb v mostVolume
 
 -- step quantity: 1 to 1,000,000
 abbrev pub isQuantity : ℕ → Bool
-isQuantity v = leb 1 v && leb v 1000000
+isQuantity v = leb 1 v && leb v mostVolume

@@ -6,6 +6,7 @@ use mathlib.Core.Path.{_≡_, refl, subst}
 use mathlib.Core.List.{List}
 use lib.ListN.{length}
 use Rattle.sections.specs.Section.{count, after, rows, onward}
+use Rattle.limits.specs.Limits.{mostPeriods}
 use Rattle.rows.specs.Rows.{rowSize}
 use Rattle.rows.specs.declared.Kind.{Kind}
 use Rattle.rows.specs.declared.Kind.the-variants.{Periods, Zones, Lines, Steps, Blocks}
@@ -36,7 +37,7 @@ pub record OfDay (day : List ℕ) (c : Counts) : Type 0 where
 
 -- a section's n rows lie within the part that starts with its count
 abbrev pub Sized : Kind → ℕ → List ℕ → ℕ → Type 0
-Sized kind periods part n = (periods ≤ 25) × ((count part ≡ n) × (2 + rowSize kind periods * n ≤ length part))
+Sized kind periods part n = (periods ≤ mostPeriods) × ((count part ≡ n) × (2 + rowSize kind periods * n ≤ length part))
 
 module _ {day : List ℕ} {c : Counts} (o : OfDay day c) where
   -- a section, by the good rows of the whole file and the count in hand

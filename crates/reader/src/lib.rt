@@ -7,13 +7,14 @@ ghost use Prim.Native.Nat.{_+_, _*_, _≤_};
 ghost use lib.ListN.{length};
 ghost use denote.Ref.{ptr};
 ghost use Rattle.stages.specs.First.{firstBad};
+ghost use Rattle.limits.specs.Limits.{mostPeriods};
 ghost use Rattle.sections.specs.Section.{count, after, onward};
 ghost use Rattle.rows.specs.Rows.{rowSize, rowOk};
 ghost use Rattle.reader.specs.Reader.{rowsAt};
 
 // The first row of a section that breaks its rule.
 fn bad_row(kind: Kind, periods: usize, zones: usize, part: &[u8], n: usize) -> Found
-    requires { ⌜ (periods ≤ 25) × (2 + rowSize kind periods * n ≤ length (now part)) ⌝ }
+    requires { ⌜ (periods ≤ mostPeriods) × (2 + rowSize kind periods * n ≤ length (now part)) ⌝ }
     ensures { λ r. ⌜ r ≡ firstBad n (rowOk kind periods zones (now (part .entry))) ⌝ }
 {
     for i in 0..n {
@@ -33,7 +34,7 @@ pub fn read_rows(
     zones: usize,
     part: &[u8],
 ) -> Section
-    requires { ⌜ periods ≤ 25 ⌝ }
+    requires { ⌜ periods ≤ mostPeriods ⌝ }
     ensures { λ r. ⌜ r ≡ rowsAt kind least most periods zones (now (part .entry)) ⌝ }
 {
     let size = rows::row_size(kind, periods);
@@ -50,7 +51,7 @@ pub fn read_rows(
 
 // What is left of a file after a section of n rows.
 pub fn rest<'a>(kind: Kind, periods: usize, part: &'a [u8], n: usize) -> &'a [u8]
-    requires { ⌜ (periods ≤ 25) × ((count (now part) ≡ n) × (2 + rowSize kind periods * n ≤ length (now part))) ⌝ }
+    requires { ⌜ (periods ≤ mostPeriods) × ((count (now part) ≡ n) × (2 + rowSize kind periods * n ≤ length (now part))) ⌝ }
     ensures { λ r. ⌜ (now r ≡ after (rowSize kind periods) (now (part .entry))) × (ptr r ≡ onward (2 + rowSize kind periods * n) (ptr (part .entry))) ⌝ }
 {
     sections::after(part, n, rows::row_size(kind, periods))

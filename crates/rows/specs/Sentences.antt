@@ -15,7 +15,7 @@ use Rattle.whole.specs.Ring.{leZ-true}
 use Rattle.stages.specs.First.{every, Says, firstBad, foundNothing, says, every-first, every-is, both, apart}
 use Rattle.stages.specs.declared.Found.{Found}
 use Rattle.stages.specs.declared.Found.the-variants.{At, Nothing}
-use Rattle.limits.specs.Limits.{isPrice, isFlow}
+use Rattle.limits.specs.Limits.{mostPrice, mostFlow, mostVolume, isPrice, isFlow}
 use Rattle.rows.specs.Laws.{line-split, block-split}
 use Rattle.rows.specs.Rows.{rowStart, rowOk, floor, ceiling, code, codeBefore, from, to, forward, back}
 use Rattle.rows.specs.Rows.{stepZone, stepPeriod, stepSide, stepSpare, stepPrice, stepQuantity}
@@ -25,12 +25,12 @@ use Rattle.rows.specs.declared.Kind.the-variants.{Periods, Zones, Lines,
 -- ---- what is meant
 
 pub record IsPrice (p : ℤ) : Type 0 where
-  pub low : negℤ (pos 1000000) ≼ p
-  pub high : p ≼ pos 1000000
+  pub low : negℤ (pos mostPrice) ≼ p
+  pub high : p ≼ pos mostPrice
 
 pub record IsFlow (f : ℤ) : Type 0 where
-  pub low : negℤ (pos 1000000) ≼ f
-  pub high : f ≼ pos 1000000
+  pub low : negℤ (pos mostFlow) ≼ f
+  pub high : f ≼ pos mostFlow
 
 pub record PeriodRow (part : List ℕ) (at : ℕ) : Type 0 where
   pub floor-is : IsPrice (floor part at)
@@ -45,8 +45,8 @@ pub record LineRow (periods zones : ℕ) (part : List ℕ) (at : ℕ) : Type 0 w
   pub from-is : from part at < zones
   pub to-is : to part at < zones
   pub different : ¬ (to part at ≡ from part at)
-  pub forward-is : (period : ℕ) → period < periods → forward part at period ≤ 1000000
-  pub back-is : (period : ℕ) → period < periods → back part at period ≤ 1000000
+  pub forward-is : (period : ℕ) → period < periods → forward part at period ≤ mostVolume
+  pub back-is : (period : ℕ) → period < periods → back part at period ≤ mostVolume
 
 pub record StepRow (periods zones : ℕ) (part : List ℕ) (at : ℕ) : Type 0 where
   pub zone-is : stepZone part at < zones
@@ -55,14 +55,14 @@ pub record StepRow (periods zones : ℕ) (part : List ℕ) (at : ℕ) : Type 0 w
   pub spare-is : stepSpare part at ≡ 0
   pub price-is : IsPrice (stepPrice part at)
   pub at-least : 1 ≤ stepQuantity part at
-  pub at-most : stepQuantity part at ≤ 1000000
+  pub at-most : stepQuantity part at ≤ mostVolume
 
 pub record BlockRow (periods zones : ℕ) (part : List ℕ) (at : ℕ) : Type 0 where
   pub zone-is : blockZone part at < zones
   pub side-is : blockSide part at ≤ 1
   pub spare-is : blockSpare part at ≡ 0
   pub price-is : IsPrice (blockPrice part at)
-  pub quantity-is : (period : ℕ) → period < periods → blockQuantity part at period ≤ 1000000
+  pub quantity-is : (period : ℕ) → period < periods → blockQuantity part at period ≤ mostVolume
   -- a period with a quantity above 0
   pub some-period : ℕ
   pub some-below : some-period < periods
@@ -132,7 +132,7 @@ module _ (periods zones : ℕ) (part : List ℕ) (i : ℕ) where
 
   pub line-row : (rowOk Lines periods zones part i ≡ true) ↔ LineRow periods zones part (rowStart Lines periods i)
   unfolding rowOk
-  line-row = simp (line-split, tests, forward-and-back (λ place. u32At part place ≤ 1000000)) (λ h. search, λ h. search)
+  line-row = simp (line-split, tests, forward-and-back (λ place. u32At part place ≤ mostVolume)) (λ h. search, λ h. search)
 
   pub step-row : (rowOk Steps periods zones part i ≡ true) ↔ StepRow periods zones part (rowStart Steps periods i)
   unfolding rowOk
@@ -150,7 +150,7 @@ module _ (periods zones : ℕ) (part : List ℕ) (i : ℕ) where
   unfolding rowOk
   flow-row = flow-is _
 
-  pub volume-row : (rowOk Volumes periods zones part i ≡ true) ↔ (u32At part (rowStart Volumes periods i) ≤ 1000000)
+  pub volume-row : (rowOk Volumes periods zones part i ≡ true) ↔ (u32At part (rowStart Volumes periods i) ≤ mostVolume)
   unfolding rowOk
   volume-row = leb-is _ _
 

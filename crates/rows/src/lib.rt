@@ -7,6 +7,7 @@ ghost use lib.ListN.{length};
 ghost use lib.Signed.{leZ};
 ghost use Rattle.wire.specs.Bytes.{u32At, i32At};
 ghost use Rattle.stages.specs.First.{every};
+ghost use Rattle.limits.specs.Limits.{mostPeriods};
 ghost use Rattle.limits.specs.Fields.{all};
 ghost use Rattle.rows.specs.Rows.{rowSize, rowOk, codeBefore, periodFields, zoneFields, lineFields, stepFields};
 ghost use Rattle.rows.specs.Rows.{blockFields, volumeFields, takenFields};
@@ -25,8 +26,8 @@ pub enum Kind {
 }
 
 pub fn row_size(kind: Kind, periods: usize) -> usize
-    requires { ⌜ periods ≤ 25 ⌝ }
-    ensures { λ r. ⌜ (r ≡ rowSize kind periods) × (r < 256) ⌝ }
+    requires { ⌜ periods ≤ mostPeriods ⌝ }
+    ensures { λ r. ⌜ (r ≡ rowSize kind periods) × (r < 65536) ⌝ }
 {
     match kind {
         Kind::Periods => 8,
@@ -98,7 +99,7 @@ fn volumes_within(part: &[u8], at: usize, n: usize, most: u32) -> bool
 }
 
 fn line_ok(part: &[u8], periods: usize, zones: usize, at: usize) -> bool
-    requires { ⌜ (periods ≤ 25) × (at + (2 + 8 * periods) ≤ length (now part)) ⌝ }
+    requires { ⌜ (periods ≤ mostPeriods) × (at + (2 + 8 * periods) ≤ length (now part)) ⌝ }
     ensures { λ r. ⌜ r ≡ all (lineFields periods zones (now (part .entry)) at) ⌝ }
 {
     limits::ends_rule(zones, wire::u8_at(part, at), wire::u8_at(part, at + 1))
@@ -106,7 +107,7 @@ fn line_ok(part: &[u8], periods: usize, zones: usize, at: usize) -> bool
 }
 
 fn block_ok(part: &[u8], periods: usize, zones: usize, at: usize) -> bool
-    requires { ⌜ (periods ≤ 25) × (at + (8 + 4 * periods) ≤ length (now part)) ⌝ }
+    requires { ⌜ (periods ≤ mostPeriods) × (at + (8 + 4 * periods) ≤ length (now part)) ⌝ }
     ensures { λ r. ⌜ r ≡ all (blockFields periods zones (now (part .entry)) at) ⌝ }
 {
     limits::block_rule(
@@ -144,7 +145,7 @@ fn taken_ok(part: &[u8], at: usize) -> bool
 
 // Whether the row i of a section obeys its rule.
 pub fn row_ok(kind: Kind, periods: usize, zones: usize, part: &[u8], i: usize) -> bool
-    requires { ⌜ (periods ≤ 25) × (2 + rowSize kind periods * (i + 1) ≤ length (now part)) ⌝ }
+    requires { ⌜ (periods ≤ mostPeriods) × (2 + rowSize kind periods * (i + 1) ≤ length (now part)) ⌝ }
     ensures { λ r. ⌜ r ≡ rowOk kind periods zones (now (part .entry)) i ⌝ }
 {
     let at = 2 + row_size(kind, periods) * i;
