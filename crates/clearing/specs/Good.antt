@@ -1,12 +1,12 @@
 -- What two files that read without fault guarantee, and what the reader's two answers mean. Assumes nothing.
 use Prim.Native.Nat.{ℕ, _+_, _*_, _<_, _≤_}
-use native.Mathlib.Nat.{mul-le-mul, le-antisymm}
+use native.Mathlib.Nat.{le-antisymm}
 use native.Mathlib.Omega.{arith}
-use mathlib.Core.Path.{_≡_, refl, sym, _∙_}
+use mathlib.Core.Path.{_≡_, refl, sym, ap, _∙_}
 use mathlib.Core.Logic.{_↔_}
 use mathlib.Core.List.{List}
 use lib.ListN.{length}
-use Rattle.stages.specs.Stage.{Means, clean-++, firstFault, answer, answer-good, answer-bad}
+use Rattle.stages.specs.Stage.{Means, means, clean-++, firstFault, answer-fault, answer-good, answer-bad}
 use Rattle.stages.specs.declared.Place.{Place}
 use Rattle.stages.specs.declared.Fault.{Fault}
 use Rattle.stages.specs.declared.Fault.the-variants.{Broken, Clean}
@@ -22,7 +22,7 @@ use Rattle.reader.specs.Reader.{GoodRows}
 use Rattle.reader.specs.Chain.{then-clean}
 use Rattle.day.specs.declared.Counts.{Counts}
 use Rattle.day.specs.Day.{counts, dayStages}
-use Rattle.day.specs.Good.{GoodDay, InLimits, in-limits, day-clean}
+use Rattle.day.specs.Good.{GoodDay, InLimits, in-limits, prices-most, flows-most, day-clean}
 use Rattle.clearing.specs.Clearing.{flowsPart, volumesPart, takenPart, endPart, clearingNumbers, clearingStages, fileStages, files}
 use Rattle.clearing.specs.Chain.{fromFlows, fromVolumes, fromTaken}
 use Rattle.clearing.specs.declared.Files.{Files}
@@ -84,36 +84,27 @@ abbrev pub faultOf : Files → Fault
 faultOf (Good c) = Clean
 faultOf (Bad k p) = Broken k p
 
-not-good : {c : Counts} (k : ℕ) (p : Place) → ¬ (Bad k p ≡ Good c)
-not-good k p e = let z : _≡_ {A = ℕ} 0 1 = cc in omega arith
+-- they are those of the first fault
+pub files-fault : (day clearing : List ℕ) → faultOf (files day clearing) ≡ firstFault (fileStages day clearing)
+files-fault day clearing = answer-fault (Good (counts day)) Bad faultOf refl (λ k p. refl) (firstFault (fileStages day clearing))
 
 -- two files read without fault just where they keep the guarantees
 pub files-good : (day clearing : List ℕ) → (files day clearing ≡ Good (counts day)) ↔ (GoodDay day × GoodClearing (counts day) clearing)
 files-good day clearing =
-    let a = answer-good (Good (counts day)) Bad not-good faultOf (λ k p. refl) (fileStages day clearing) in
+    let a = answer-good (Good (counts day)) Bad faultOf refl (λ k p. refl) (fileStages day clearing) in
     let c = files-clean day clearing in
     (λ e. c .0 (a .0 e), λ g. a .1 (c .1 g))
 
 -- they are refused with a number and a place just where that is their first fault
 pub files-bad : (day clearing : List ℕ) (k : ℕ) (p : Place) → (files day clearing ≡ Bad k p) ↔ Means (fileStages day clearing) (Broken k p)
-files-bad day clearing k p = answer-bad (Good (counts day)) Bad not-good faultOf (λ k p. refl) (fileStages day clearing) k p
-
--- the number and the place of the answer are those of the first fault
-pub files-fault : (day clearing : List ℕ) → faultOf (files day clearing) ≡ firstFault (fileStages day clearing)
-files-fault day clearing = by (firstFault (fileStages day clearing))
-  where
-    by : (f : Fault) → faultOf (answer (Good (counts day)) Bad f) ≡ f
-    by Clean = refl
-    by (Broken k p) = refl
+files-bad day clearing = answer-bad (Good (counts day)) Bad faultOf refl (λ k p. refl) (fileStages day clearing)
 
 -- the counts of a good answer are the day file's
 pub good-files : (day clearing : List ℕ) (c : Counts) → files day clearing ≡ Good c → (counts day ≡ c) × (GoodDay day × GoodClearing (counts day) clearing)
-good-files day clearing c e = by (firstFault (fileStages day clearing)) refl e
-  where
-    by : (f : Fault) → firstFault (fileStages day clearing) ≡ f → answer (Good (counts day)) Bad f ≡ Good c →
-        (counts day ≡ c) × (GoodDay day × GoodClearing (counts day) clearing)
-    by Clean q r = (cc, files-good day clearing .0 (rw q))
-    by (Broken k p) q r = absurd (not-good k p r)
+good-files day clearing c e =
+    let f : firstFault (fileStages day clearing) ≡ Clean = sym (files-fault day clearing) ∙ ap faultOf e in
+    let same : Good (counts day) ≡ Good c = rw f at e in
+    (cc, files-clean day clearing .0 (means (fileStages day clearing) Clean .0 f))
 
 -- the contract of `read_files` allows one answer
 pub one-files-answer : (day clearing : List ℕ) {r s : Files} → r ≡ files day clearing → s ≡ files day clearing → r ≡ s
@@ -141,10 +132,7 @@ clearing-length c clearing g =
     (g .no-more)
 
 within : (c : Counts) → InLimits c → clearingLength c ≤ 10508
-within c l =
-    let prices : c .zones * c .periods ≤ 8 * 25 = mul-le-mul {n₂ = 8} {m₂ = 25} (omega arith) (omega arith) in
-    let flows : c .lines * c .periods ≤ 16 * 25 = mul-le-mul {n₂ = 16} {m₂ = 25} (omega arith) (omega arith) in
-    omega arith
+within c l = omega (arith, prices-most l, flows-most l)
 
 -- the largest clearing file
 pub clearing-longest : (day clearing : List ℕ) → GoodDay day → GoodClearing (counts day) clearing → length clearing ≤ 10508

@@ -2,11 +2,11 @@
 use Prim.Native.Nat.{ℕ, _+_, _*_, _<_, _≤_}
 use native.Mathlib.Nat.{mul-le-mul}
 use native.Mathlib.Omega.{arith}
-use mathlib.Core.Path.{_≡_, refl, sym, _∙_}
+use mathlib.Core.Path.{_≡_, refl, sym, ap, _∙_}
 use mathlib.Core.Logic.{_↔_}
 use mathlib.Core.List.{List}
 use lib.ListN.{length}
-use Rattle.stages.specs.Stage.{Means, firstFault, answer, answer-good, answer-bad}
+use Rattle.stages.specs.Stage.{Means, means, firstFault, answer-fault, answer-good, answer-bad}
 use Rattle.stages.specs.declared.Place.{Place}
 use Rattle.stages.specs.declared.Fault.{Fault}
 use Rattle.stages.specs.declared.Fault.the-variants.{Broken, Clean}
@@ -64,6 +64,14 @@ in-limits g = record {
   blocks-most = g .blocks-good .at-most;
 }
 
+-- as many prices and flows as a clearing file has at the most
+module _ {c : Counts} (l : InLimits c) where
+  pub prices-most : c .zones * c .periods ≤ 8 * 25
+  prices-most = mul-le-mul (l .zones-most) (l .periods-most)
+
+  pub flows-most : c .lines * c .periods ≤ 16 * 25
+  flows-most = mul-le-mul (l .lines-most) (l .periods-most)
+
 -- ---- where all stages are clean
 
 pub day-clean : (day : List ℕ) → Means (dayStages day) Clean ↔ GoodDay day
@@ -101,16 +109,9 @@ abbrev pub faultOf : DayFile → Fault
 faultOf (Good c) = Clean
 faultOf (Bad k p) = Broken k p
 
-not-good : {c : Counts} (k : ℕ) (p : Place) → ¬ (Bad k p ≡ Good c)
-not-good k p e = let z : _≡_ {A = ℕ} 0 1 = cc in omega arith
-
 -- they are those of the first fault
 pub day-fault : (day : List ℕ) → faultOf (dayFile day) ≡ firstFault (dayStages day)
-day-fault day = by (firstFault (dayStages day))
-  where
-    by : (f : Fault) → faultOf (answer (Good (counts day)) Bad f) ≡ f
-    by Clean = refl
-    by (Broken k p) = refl
+day-fault day = answer-fault (Good (counts day)) Bad faultOf refl (λ k p. refl) (firstFault (dayStages day))
 
 -- the contract of `read_day` allows one answer
 pub one-day-answer : (day : List ℕ) {r s : DayFile} → r ≡ dayFile day → s ≡ dayFile day → r ≡ s
@@ -119,20 +120,19 @@ one-day-answer day p q = p ∙ sym q
 -- a day file reads without fault just where it keeps the guarantees
 pub day-good : (day : List ℕ) → (dayFile day ≡ Good (counts day)) ↔ GoodDay day
 day-good day =
-    let a = answer-good (Good (counts day)) Bad not-good faultOf (λ k p. refl) (dayStages day) in
+    let a = answer-good (Good (counts day)) Bad faultOf refl (λ k p. refl) (dayStages day) in
     (λ e. day-clean day .0 (a .0 e), λ g. a .1 (day-clean day .1 g))
 
 -- it is refused with a number and a place just where that is its first fault
 pub day-bad : (day : List ℕ) (k : ℕ) (p : Place) → (dayFile day ≡ Bad k p) ↔ Means (dayStages day) (Broken k p)
-day-bad day k p = answer-bad (Good (counts day)) Bad not-good faultOf (λ k p. refl) (dayStages day) k p
+day-bad day = answer-bad (Good (counts day)) Bad faultOf refl (λ k p. refl) (dayStages day)
 
 -- the counts of a good answer are the file's
 pub good-counts : (day : List ℕ) (c : Counts) → dayFile day ≡ Good c → (counts day ≡ c) × GoodDay day
-good-counts day c e = by (firstFault (dayStages day)) refl e
-  where
-    by : (f : Fault) → firstFault (dayStages day) ≡ f → answer (Good (counts day)) Bad f ≡ Good c → (counts day ≡ c) × GoodDay day
-    by Clean q r = (cc, day-good day .0 (rw q))
-    by (Broken k p) q r = absurd (not-good k p r)
+good-counts day c e =
+    let f : firstFault (dayStages day) ≡ Clean = sym (day-fault day) ∙ ap faultOf e in
+    let same : Good (counts day) ≡ Good c = rw f at e in
+    (cc, day-clean day .0 (means (dayStages day) Clean .0 f))
 
 -- ---- how long a good day file is
 

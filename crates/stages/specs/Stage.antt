@@ -175,33 +175,28 @@ clean-++ (s ∷ xs) ys = (
   λ m. (m .0 .0, clean-++ xs ys .1 (m .0 .1, m .1)),
 )
 
--- ---- an answer that is made of the first fault
+-- ---- an answer that is made of the first fault, by the definition that gives the number and the place of each answer
 
-broken-clean : {A : Type 0} {k : ℕ} {p : Place} → Broken k p ≡ Clean → A
-broken-clean e = let z : _≡_ {A = ℕ} 0 1 = cc in absurd (omega arith)
+module _ {A : Type 0} (good : A) (bad : ℕ → Place → A) (fault : A → Fault) (fault-good : fault good ≡ Clean)
+    (fault-bad : (k : ℕ) (p : Place) → fault (bad k p) ≡ Broken k p) where
+  pub answer-fault : (f : Fault) → fault (answer good bad f) ≡ f
+  answer-fault Clean = fault-good
+  answer-fault (Broken k p) = fault-bad k p
 
--- where a good answer is no bad one, and a bad answer has one number and one place
-module _ {A : Type 0} (good : A) (bad : ℕ → Place → A) (apart-answers : (k : ℕ) (p : Place) → ¬ (bad k p ≡ good))
-    (fault : A → Fault) (fault-of : (k : ℕ) (p : Place) → fault (bad k p) ≡ Broken k p) (ss : List Stage) where
-  good-of : (f : Fault) → (answer good bad f ≡ good) ↔ (f ≡ Clean)
-  good-of Clean = (λ e. refl, λ e. refl)
-  good-of (Broken k p) = (λ e. absurd (apart-answers k p e), λ e. broken-clean e)
+  answer-of : (f : Fault) {x : A} → answer good bad f ≡ x → f ≡ fault x
+  answer-of f e = sym (answer-fault f) ∙ ap fault e
 
-  bad-of : (k : ℕ) (p : Place) (f : Fault) → (answer good bad f ≡ bad k p) ↔ (f ≡ Broken k p)
-  bad-of k p Clean = (λ e. absurd (apart-answers k p (sym e)), λ e. broken-clean (sym e))
-  bad-of k p (Broken l q) = (
-    λ e. sym (fault-of l q) ∙ ap fault e ∙ fault-of k p,
-    λ e. ap (answer good bad) e,
-  )
+  module _ (ss : List Stage) where
+    -- the good answer is given just where every stage's test holds everywhere
+    pub answer-good : (answer good bad (firstFault ss) ≡ good) ↔ Means ss Clean
+    answer-good = (
+      λ e. means ss Clean .0 (answer-of (firstFault ss) e ∙ fault-good),
+      λ m. ap (answer good bad) (means ss Clean .1 m),
+    )
 
-  -- the good answer is given just where every stage's test holds everywhere
-  pub answer-good : (answer good bad (firstFault ss) ≡ good) ↔ Means ss Clean
-  answer-good =
-      let g = good-of (firstFault ss) in
-      (λ e. means ss Clean .0 (g .0 e), λ m. g .1 (means ss Clean .1 m))
-
-  -- a bad one, just where that is the first fault
-  pub answer-bad : (k : ℕ) (p : Place) → (answer good bad (firstFault ss) ≡ bad k p) ↔ Means ss (Broken k p)
-  answer-bad k p =
-      let b = bad-of k p (firstFault ss) in
-      (λ e. means ss (Broken k p) .0 (b .0 e), λ m. b .1 (means ss (Broken k p) .1 m))
+    -- a bad one, just where that is the first fault
+    pub answer-bad : (k : ℕ) (p : Place) → (answer good bad (firstFault ss) ≡ bad k p) ↔ Means ss (Broken k p)
+    answer-bad k p = (
+      λ e. means ss (Broken k p) .0 (answer-of (firstFault ss) e ∙ fault-bad k p),
+      λ m. ap (answer good bad) (means ss (Broken k p) .1 m),
+    )

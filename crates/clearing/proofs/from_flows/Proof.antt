@@ -1,12 +1,12 @@
 -- `clearing::from_flows` meets its contract: a fault of the section is the file's, and what is left is handed on. Assumes nothing.
 use mathlib.Core.Path.{sym, _∙_}
-use Prim.Native.Nat.{_*_, _≤_}
-use native.Mathlib.Nat.{mul-le-mul}
+use Prim.Native.Nat.{_*_}
 use native.Mathlib.Omega.{arith}
 use denote.Ref.{now}
 use borrow.Author.Needs.{needs}
 use Rattle.rows.specs.declared.Kind.the-variants.{Flows}
 use Rattle.reader.specs.Chain.{reading-read, fault-returns, handed-on}
+use Rattle.day.specs.Good.{flows-most}
 use Rattle.clearing.specs.Clearing.{clearingNumbers}
 use Rattle.clearing.specs.Chain.{fromVolumes}
 use Rattle.clearing.specs.declared.Files.the-variants.{Good, Bad}
@@ -14,11 +14,7 @@ use Rattle.clearing.proofs.from_flows.Statement.{statement}
 use Rattle.clearing.proofs.from_flows.Tie as tie
 
 mul-read-section : tie.Need-mul-read-section
-mul-read-section c =
-    let a = c .before .before .args in
-    let m : a .counts .lines * a .counts .periods ≤ 16 * 25 =
-    mul-le-mul {n₂ = 16} {m₂ = 25} (omega (arith, c .before .before .pre)) (omega (arith, c .before .before .pre)) in
-    omega arith
+mul-read-section c = omega (arith, flows-most (c .before .before .pre))
 
 read-section-requires : tie.Need-read-section-requires
 read-section-requires c κs = search needs
