@@ -2,6 +2,8 @@
 use Prim.Native.Nat.{ℕ, _*_}
 use mathlib.Core.List.{List, _++_}
 use Rattle.stages.specs.Stage.{Stage, firstFault, answer}
+use Rattle.stages.specs.declared.Fault.{Fault}
+use Rattle.stages.specs.declared.Fault.the-variants.{Broken, Clean}
 use Rattle.sections.specs.Section.{Numbers, after, ended}
 use Rattle.rows.specs.Rows.{rowSize}
 use Rattle.rows.specs.declared.Kind.{Kind}
@@ -53,3 +55,8 @@ fileStages day clearing = dayStages day ++ clearingStages (counts day) clearing
 -- the number and the place of the first fault, or the counts of two files that read without fault
 abbrev pub files : List ℕ → List ℕ → Files
 files day clearing = answer (Good (counts day)) Bad (firstFault (fileStages day clearing))
+
+-- the number and the place of each answer; a good one has no fault
+abbrev pub faultOf : Files → Fault
+faultOf (Good c) = Clean
+faultOf (Bad k p) = Broken k p

@@ -8,7 +8,6 @@ use mathlib.Core.List.{List}
 use lib.ListN.{length}
 use Rattle.stages.specs.Stage.{Means, means, clean-++, firstFault, answer-fault, answer-good, answer-bad}
 use Rattle.stages.specs.declared.Place.{Place}
-use Rattle.stages.specs.declared.Fault.{Fault}
 use Rattle.stages.specs.declared.Fault.the-variants.{Broken, Clean}
 use Rattle.sections.specs.Section.{count, after, ended}
 use Rattle.sections.specs.Good.{ended-clean, part-length}
@@ -23,7 +22,7 @@ use Rattle.reader.specs.Chain.{then-clean}
 use Rattle.day.specs.declared.Counts.{Counts}
 use Rattle.day.specs.Day.{counts, dayStages}
 use Rattle.day.specs.Good.{GoodDay, InLimits, in-limits, prices-most, flows-most, day-clean}
-use Rattle.clearing.specs.Clearing.{flowsPart, volumesPart, takenPart, endPart, clearingNumbers, clearingStages, fileStages, files}
+use Rattle.clearing.specs.Clearing.{flowsPart, volumesPart, takenPart, endPart, clearingNumbers, clearingStages, fileStages, files, faultOf}
 use Rattle.clearing.specs.Chain.{fromFlows, fromVolumes, fromTaken}
 use Rattle.clearing.specs.declared.Files.{Files}
 use Rattle.clearing.specs.declared.Files.the-variants.{Good, Bad}
@@ -79,14 +78,9 @@ files-clean day clearing =
 
 -- ---- the two answers
 
--- the number and the place of each
-abbrev pub faultOf : Files → Fault
-faultOf (Good c) = Clean
-faultOf (Bad k p) = Broken k p
-
--- they are those of the first fault
-pub files-fault : (day clearing : List ℕ) → faultOf (files day clearing) ≡ firstFault (fileStages day clearing)
-files-fault day clearing = answer-fault (Good (counts day)) Bad faultOf refl (λ k p. refl) (firstFault (fileStages day clearing))
+-- their number and place are those of the first fault
+pub files-fault : (day clearing : List ℕ) {r : Files} → r ≡ files day clearing → faultOf r ≡ firstFault (fileStages day clearing)
+files-fault day clearing e = ap faultOf e ∙ answer-fault (Good (counts day)) Bad faultOf refl (λ k p. refl) (firstFault (fileStages day clearing))
 
 -- two files read without fault just where they keep the guarantees
 pub files-good : (day clearing : List ℕ) → (files day clearing ≡ Good (counts day)) ↔ (GoodDay day × GoodClearing (counts day) clearing)
@@ -102,7 +96,7 @@ files-bad day clearing = answer-bad (Good (counts day)) Bad faultOf refl (λ k p
 -- the counts of a good answer are the day file's
 pub good-files : (day clearing : List ℕ) (c : Counts) → files day clearing ≡ Good c → (counts day ≡ c) × (GoodDay day × GoodClearing (counts day) clearing)
 good-files day clearing c e =
-    let f : firstFault (fileStages day clearing) ≡ Clean = sym (files-fault day clearing) ∙ ap faultOf e in
+    let f : firstFault (fileStages day clearing) ≡ Clean = sym (files-fault day clearing (sym e)) in
     let same : Good (counts day) ≡ Good c = rw f at e in
     (cc, files-clean day clearing .0 (means (fileStages day clearing) Clean .0 f))
 

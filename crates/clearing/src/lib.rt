@@ -5,10 +5,11 @@ use rows::Kind;
 use sections::Reading;
 use stages::Place;
 ghost use mathlib.Core.Path.{_≡_};
+ghost use Rattle.stages.specs.Stage.{firstFault};
 ghost use Rattle.sections.specs.Section.{ended};
 ghost use Rattle.reader.specs.Reader.{readingAt};
 ghost use Rattle.day.specs.Good.{InLimits};
-ghost use Rattle.clearing.specs.Clearing.{clearingNumbers, clearingStages, files};
+ghost use Rattle.clearing.specs.Clearing.{clearingNumbers, clearingStages, fileStages, files, faultOf};
 ghost use Rattle.clearing.specs.Chain.{filesFrom, fromFlows, fromVolumes, fromTaken};
 
 // What the reader of both files answers: they read without fault, or the number and the place of the first fault.
@@ -87,7 +88,8 @@ fn read_clearing(clearing: &[u8], counts: Counts) -> Files
 
 // Reads any two byte strings as a day file and its clearing file.
 pub fn read_files(day: &[u8], clearing: &[u8]) -> Files
-    ensures { λ r. ⌜ r ≡ files (now (day .entry)) (now (clearing .entry)) ⌝ }
+    ensures answer { λ r. ⌜ r ≡ files (now (day .entry)) (now (clearing .entry)) ⌝ }
+    ensures numbered { λ r. ⌜ faultOf r ≡ firstFault (fileStages (now (day .entry)) (now (clearing .entry))) ⌝ }
 {
     match day::read_day(day) {
         DayFile::Bad(k, p) => Files::Bad(k, p),

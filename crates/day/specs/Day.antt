@@ -2,6 +2,8 @@
 use Prim.Native.Nat.{ℕ}
 use mathlib.Core.List.{List, _++_}
 use Rattle.stages.specs.Stage.{Stage, firstFault, answer}
+use Rattle.stages.specs.declared.Fault.{Fault}
+use Rattle.stages.specs.declared.Fault.the-variants.{Broken, Clean}
 use Rattle.sections.specs.Section.{Numbers, count, after, ended}
 use Rattle.limits.specs.Limits.{mostPeriods, mostZones, mostLines, mostSteps, mostBlocks}
 use Rattle.rows.specs.Rows.{rowSize}
@@ -69,3 +71,8 @@ dayStages day =
 -- the number and the place of the first fault, or the counts of a day file that reads without fault
 abbrev pub dayFile : List ℕ → DayFile
 dayFile day = answer (Good (counts day)) Bad (firstFault (dayStages day))
+
+-- the number and the place of each answer; a good one has no fault
+abbrev pub faultOf : DayFile → Fault
+faultOf (Good c) = Clean
+faultOf (Bad k p) = Broken k p

@@ -8,7 +8,6 @@ use mathlib.Core.List.{List}
 use lib.ListN.{length}
 use Rattle.stages.specs.Stage.{Means, means, firstFault, answer-fault, answer-good, answer-bad}
 use Rattle.stages.specs.declared.Place.{Place}
-use Rattle.stages.specs.declared.Fault.{Fault}
 use Rattle.stages.specs.declared.Fault.the-variants.{Broken, Clean}
 use Rattle.sections.specs.Section.{count, ended}
 use Rattle.sections.specs.Good.{ended-clean, part-length}
@@ -19,7 +18,7 @@ use Rattle.rows.specs.declared.Kind.the-variants.{Periods, Zones, Lines, Steps,
 use Rattle.reader.specs.Reader.{GoodRows}
 use Rattle.reader.specs.Chain.{then-clean}
 use Rattle.day.specs.Chain.{fromZones, fromLines, fromSteps, fromBlocks}
-use Rattle.day.specs.Day.{periods, zones, zonesPart, linesPart, stepsPart, blocksPart, endPart, counts, dayNumbers, dayStages, dayFile}
+use Rattle.day.specs.Day.{periods, zones, zonesPart, linesPart, stepsPart, blocksPart, endPart, counts, dayNumbers, dayStages, dayFile, faultOf}
 use Rattle.day.specs.declared.Counts.{Counts}
 use Rattle.day.specs.declared.DayFile.{DayFile}
 use Rattle.day.specs.declared.DayFile.the-variants.{Good, Bad}
@@ -104,14 +103,9 @@ day-clean day =
 
 -- ---- the two answers
 
--- the number and the place of each
-abbrev pub faultOf : DayFile → Fault
-faultOf (Good c) = Clean
-faultOf (Bad k p) = Broken k p
-
--- they are those of the first fault
-pub day-fault : (day : List ℕ) → faultOf (dayFile day) ≡ firstFault (dayStages day)
-day-fault day = answer-fault (Good (counts day)) Bad faultOf refl (λ k p. refl) (firstFault (dayStages day))
+-- their number and place are those of the first fault
+pub day-fault : (day : List ℕ) {r : DayFile} → r ≡ dayFile day → faultOf r ≡ firstFault (dayStages day)
+day-fault day e = ap faultOf e ∙ answer-fault (Good (counts day)) Bad faultOf refl (λ k p. refl) (firstFault (dayStages day))
 
 -- the contract of `read_day` allows one answer
 pub one-day-answer : (day : List ℕ) {r s : DayFile} → r ≡ dayFile day → s ≡ dayFile day → r ≡ s
@@ -130,7 +124,7 @@ day-bad day = answer-bad (Good (counts day)) Bad faultOf refl (λ k p. refl) (da
 -- the counts of a good answer are the file's
 pub good-counts : (day : List ℕ) (c : Counts) → dayFile day ≡ Good c → (counts day ≡ c) × GoodDay day
 good-counts day c e =
-    let f : firstFault (dayStages day) ≡ Clean = sym (day-fault day) ∙ ap faultOf e in
+    let f : firstFault (dayStages day) ≡ Clean = sym (day-fault day (sym e)) in
     let same : Good (counts day) ≡ Good c = rw f at e in
     (cc, day-clean day .0 (means (dayStages day) Clean .0 f))
 

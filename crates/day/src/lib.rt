@@ -5,9 +5,10 @@ use stages::Place;
 ghost use mathlib.Core.Path.{_≡_};
 ghost use Prim.Native.Nat.{_≤_};
 ghost use Rattle.limits.specs.Limits.{mostPeriods};
+ghost use Rattle.stages.specs.Stage.{firstFault};
 ghost use Rattle.sections.specs.Section.{ended};
 ghost use Rattle.reader.specs.Reader.{readingAt};
-ghost use Rattle.day.specs.Day.{dayNumbers, dayFile};
+ghost use Rattle.day.specs.Day.{dayNumbers, dayStages, dayFile, faultOf};
 ghost use Rattle.day.specs.Chain.{countsZones, countsLines, countsSteps, countsBlocks, fileFrom, fromZones, fromLines, fromSteps, fromBlocks};
 
 // How many rows each section has.
@@ -141,7 +142,8 @@ fn from_zones(part: &[u8], periods: usize) -> DayFile
 
 // Reads any bytes as a day file.
 pub fn read_day(file: &[u8]) -> DayFile
-    ensures { λ r. ⌜ r ≡ dayFile (now (file .entry)) ⌝ }
+    ensures answer { λ r. ⌜ r ≡ dayFile (now (file .entry)) ⌝ }
+    ensures numbered { λ r. ⌜ faultOf r ≡ firstFault (dayStages (now (file .entry))) ⌝ }
 {
     match read_section(1, Kind::Periods, 1, limits::MOST_PERIODS, 0, 0, file) {
         Reading::Refused(k, p) => DayFile::Bad(k, p),

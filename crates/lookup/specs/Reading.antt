@@ -10,8 +10,8 @@ use Rattle.sections.specs.Section.{onward}
 use Rattle.day.specs.declared.Counts.{Counts}
 use Rattle.day.specs.declared.DayFile.{DayFile}
 use Rattle.day.specs.declared.DayFile.the-variants.{Good, Bad}
-use Rattle.day.specs.Day.{counts}
-use Rattle.day.specs.Good.{faultOf, day-clean}
+use Rattle.day.specs.Day.{counts, faultOf}
+use Rattle.day.specs.Good.{day-clean}
 use Rattle.parts.specs.Of.{OfDay}
 use Rattle.lookup.specs.LookUp.{rowsOf, rowsAt, lookUpStages, lookUp, lookUpAt}
 

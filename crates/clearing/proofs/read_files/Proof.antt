@@ -2,6 +2,7 @@
 use mathlib.Core.Path.{sym, _∙_, subst}
 use denote.Ref.{now}
 use Rattle.day.specs.Good.{InLimits, in-limits, good-counts}
+use Rattle.clearing.specs.Good.{files-fault}
 use Rattle.clearing.specs.Chain.{day-first, then-clearing}
 use borrow.Author.Needs.{needs}
 use Rattle.clearing.proofs.read_files.Statement.{statement}
@@ -19,18 +20,21 @@ enum-known-counts c = search needs
 read-clearing-requires : tie.Need-read-clearing-requires
 read-clearing-requires c κs =
     let day = now (c .before .before .before .before .before .before .args .day) in
-    let g = good-counts day (c .before .counts .given .0 .0) (sym (c .before .before .before .read-day .ensures) ∙ c .before .counts .given .1) in
+    let g = good-counts day (c .before .counts .given .0 .0) (sym (c .before .before .before .read-day .ensures .0) ∙ c .before .counts .given .1) in
     subst InLimits (g .0) (in-limits (g .1))
 
 returns : tie.Need-returns
 returns c =
     let a = c .before .before .before .before .before .before .args in
-    day-first (now (a .day)) (now (a .clearing)) (sym (c .before .before .before .read-day .ensures) ∙ c .before .k .given .1)
+    let e = day-first (now (a .day)) (now (a .clearing)) (sym (c .before .before .before .read-day .ensures .0) ∙ c .before .k .given .1) in
+    (e, files-fault (now (a .day)) (now (a .clearing)) e)
 
 returns-2 : tie.Need-returns-2
 returns-2 c =
     let a = c .before .before .before .before .before .before .before .args in
-    then-clearing (now (a .day)) (now (a .clearing)) (sym (c .before .before .before .before .read-day .ensures) ∙ c .before .before .counts .given .1) (c .read-clearing .ensures)
+    let e = then-clearing (now (a .day)) (now (a .clearing))
+    (sym (c .before .before .before .before .read-day .ensures .0) ∙ c .before .before .counts .given .1) (c .read-clearing .ensures) in
+    (e, files-fault (now (a .day)) (now (a .clearing)) e)
 
 pub read-files-spec : {M : Type 1} → statement M
 read-files-spec =

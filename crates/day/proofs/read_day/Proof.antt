@@ -9,6 +9,7 @@ use Rattle.rows.specs.Rows.{rowSize}
 use Rattle.limits.specs.Limits.{mostPeriods}
 use Rattle.rows.specs.declared.Kind.the-variants.{Periods}
 use Rattle.day.specs.Day.{dayNumbers, dayStages}
+use Rattle.day.specs.Good.{day-fault}
 use Rattle.day.specs.Chain.{countsZones, fromZones}
 use Rattle.day.specs.declared.DayFile.the-variants.{Good, Bad}
 use Rattle.day.proofs.read_day.Statement.{statement}
@@ -38,17 +39,20 @@ returns : tie.Need-returns
 unfolding dayStages
 returns c =
     let a = c .before .before .before .before .before .args in
-    fault-returns dayNumbers 1 Periods 1 mostPeriods 0 0 (now (a .file))
+    let e = fault-returns dayNumbers 1 Periods 1 mostPeriods 0 0 (now (a .file))
     Bad (λ left n. Good (countsZones n left)) (λ left n. fromZones n left)
-    (sym (c .before .before .before .read-section .ensures) ∙ c .before .k .given .1)
+    (sym (c .before .before .before .read-section .ensures) ∙ c .before .k .given .1) in
+    (e, day-fault (now (a .file)) e)
 
 returns-2 : tie.Need-returns-2
 unfolding dayStages
 returns-2 c =
     let a = c .before .before .before .before .before .before .before .args in
-    handed-on dayNumbers 1 Periods 1 mostPeriods 0 0 (now (a .file))
+    let e = handed-on dayNumbers 1 Periods 1 mostPeriods 0 0 (now (a .file))
     Bad (λ left n. Good (countsZones n left)) (λ left n. fromZones n left)
-    (sym (c .before .before .before .before .before .read-section .ensures) ∙ c .before .before .before .periods .given .1) (c .before .rest .ensures .0) (c .from-zones .ensures)
+    (sym (c .before .before .before .before .before .read-section .ensures) ∙ c .before .before .before .periods .given .1)
+    (c .before .rest .ensures .0) (c .from-zones .ensures) in
+    (e, day-fault (now (a .file)) e)
 
 pub read-day-spec : {M : Type 1} → statement M
 read-day-spec =

@@ -15,7 +15,7 @@ read-day-requires : tie.Need-read-day-requires
 read-day-requires c κs = search needs
 
 returns-2 : tie.Need-returns-2
-returns-2 c = rw (sym (c .before .before .is-section .ensures) ∙ not-false _ (c .before .if1 .left)) (c .read-day .ensures)
+returns-2 c = rw (sym (c .before .before .is-section .ensures) ∙ not-false _ (c .before .if1 .left)) (c .read-day .ensures .0)
 
 pub read-for-spec : {M : Type 1} → statement M
 read-for-spec = tie.close (tie.spec is-section-requires returns read-day-requires returns-2)
