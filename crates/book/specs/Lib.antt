@@ -1,0 +1,8 @@
+-- What is meant: the market's day that a day file says, the prices and the choice that a clearing file says.
+pub mod Book
+-- Two files that read without fault, with their counts in hand.
+pub mod Of
+-- Where the rows of a day file lie.
+pub mod DayRows
+-- Their numbers lie within their limits, and their rows name zones and periods that are there.
+pub mod Ranges

@@ -1,0 +1,68 @@
+-- Two files that read without fault, with their counts in hand. Assumes nothing.
+use Prim.Native.Nat.{ℕ, _+_, _*_, _<_, _≤_}
+use native.Mathlib.Nat.{mul-le-mul, lt-of-lt-of-le}
+use native.Mathlib.Omega.{arith}
+use mathlib.Core.Path.{_≡_, refl, subst}
+use mathlib.Core.List.{List}
+use lib.ListN.{length}
+use Rattle.rows.specs.Rows.{rowSize, rowStart}
+use Rattle.rows.specs.declared.Kind.{Kind}
+use Rattle.rows.specs.declared.Kind.the-variants.{Prices, Flows, Volumes, Taken}
+use Rattle.day.specs.declared.Counts.{Counts}
+use Rattle.day.specs.Good.{InLimits, prices-most, flows-most}
+use Rattle.clearing.specs.Clearing.{flowsPart, volumesPart, takenPart}
+use Rattle.clearing.specs.Good.{GoodClearing, Asked, asked-is}
+use Rattle.parts.specs.Of.{OfDay, Sized}
+
+-- a clearing file, by the counts of its day
+pub record OfClearing (clearing : List ℕ) (c : Counts) : Type 0 where
+  pub cleared : GoodClearing c clearing
+  pub limits : InLimits c
+
+-- both files
+pub record OfFiles (day clearing : List ℕ) (c : Counts) : Type 0 where
+  pub of-day : OfDay day c
+  pub of-clearing : OfClearing clearing c
+
+-- ---- the rows of a section, and the cells of a table
+
+-- where n rows end within a part, each of them does
+pub row-within : (kind : Kind) (periods : ℕ) {i n bytes : ℕ} → rowStart kind periods n ≤ bytes → i < n →
+    rowStart kind periods i + rowSize kind periods ≤ bytes
+row-within kind periods {i} {n} s l =
+    let size = rowSize kind periods in
+    let h : size * (i + 1) ≤ size * n = mul-le-mul {n₂ = size} {m₂ = n} (omega arith) (omega arith) in
+    omega arith
+
+-- a cell lies within its table, all columns of row 0 first
+pub cell-below : {row column rows columns : ℕ} → row < rows → column < columns → row * columns + column < rows * columns
+cell-below {row} {column} {rows} {columns} l k =
+    let h : (row + 1) * columns ≤ rows * columns = mul-le-mul {n₂ = rows} {m₂ = columns} (omega arith) (omega arith) in
+    omega arith
+
+-- ---- the sections of a clearing file, with the counts that the day file asks
+
+asked-sized : (kind : Kind) {asked : ℕ} {whole : List ℕ} → Asked kind asked whole → {part : List ℕ} → part ≡ whole → Sized kind 0 part asked
+asked-sized kind {whole = whole} g q =
+    let e = asked-is kind g in
+    rw q (omega arith, (e, subst (λ (n : ℕ). 2 + rowSize kind 0 * n ≤ length whole) e (g .room)))
+
+module _ {clearing : List ℕ} {c : Counts} (o : OfClearing clearing c) where
+  pub prices-sized : Sized Prices 0 clearing (c .zones * c .periods)
+  prices-sized = asked-sized Prices (o .cleared .prices-good) refl
+
+  pub flows-sized : {part : List ℕ} → part ≡ flowsPart clearing → Sized Flows 0 part (c .lines * c .periods)
+  flows-sized = asked-sized Flows (o .cleared .flows-good)
+
+  pub volumes-sized : {part : List ℕ} → part ≡ volumesPart clearing → Sized Volumes 0 part (c .steps)
+  volumes-sized = asked-sized Volumes (o .cleared .volumes-good)
+
+  pub taken-sized : {part : List ℕ} → part ≡ takenPart clearing → Sized Taken 0 part (c .blocks)
+  taken-sized = asked-sized Taken (o .cleared .taken-good)
+
+  -- no cell is beyond the most prices, or the most flows
+  pub price-cell : {zone period : ℕ} → (zone < c .zones) × (period < c .periods) → zone * c .periods + period < 200
+  price-cell l = lt-of-lt-of-le (cell-below (l .0) (l .1)) (prices-most (o .limits))
+
+  pub flow-cell : {line period : ℕ} → (line < c .lines) × (period < c .periods) → line * c .periods + period < 400
+  flow-cell l = lt-of-lt-of-le (cell-below (l .0) (l .1)) (flows-most (o .limits))

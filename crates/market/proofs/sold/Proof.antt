@@ -1,0 +1,100 @@
+-- `market::sold` meets its contract. Assumes nothing.
+use mir.Syntax.{w64}
+use mir.ValLaws.{toZ-ofZ}
+use mathlib.Core.Path.{_∙_}
+use Rattle.whole.specs.Size.{same}
+use borrow.Author.Needs.{needs}
+use Rattle.market.proofs.sold.Statement.{statement}
+use Rattle.market.proofs.sold.Tie as tie
+
+enum-told : tie.Need-enum-told
+enum-told c = search needs
+
+gain-requires : tie.Need-gain-requires
+gain-requires c κs = search needs
+
+enum-told-2 : tie.Need-enum-told-2
+enum-told-2 c = search needs
+
+enum-told-3 : tie.Need-enum-told-3
+enum-told-3 c = search needs
+
+gain-requires-2 : tie.Need-gain-requires-2
+gain-requires-2 c κs = search needs
+
+enum-told-4 : tie.Need-enum-told-4
+enum-told-4 c = search needs
+
+enum-told-5 : tie.Need-enum-told-5
+enum-told-5 c = search needs
+
+gain-requires-3 : tie.Need-gain-requires-3
+gain-requires-3 c κs = search needs
+
+enum-known-m : tie.Need-enum-known-m
+enum-known-m c = search needs
+
+volume-at-requires : tie.Need-volume-at-requires
+volume-at-requires c κs = search needs
+
+returns : tie.Need-returns
+returns c =
+    let s = c .before .before .before .before in
+    rw (
+      c .before .before .enum-told .given .1,
+      same (c .gain .result) (c .gain .ok),
+      c .gain .ensures,
+      toZ-ofZ w64 (s .args .t .limit) (record { sfits = c .before .struct-told .given .1 .1 .1 .0 .1 }),
+    )
+
+returns-2 : tie.Need-returns-2
+returns-2 c = rw (c .enum-told2 .given .1)
+
+returns-3 : tie.Need-returns-3
+returns-3 c =
+    let s = c .before .before .before .before in
+    rw (
+      c .before .before .enum-told3 .given .1,
+      same (c .gain2 .result) (c .gain2 .ok),
+      c .gain2 .ensures,
+      toZ-ofZ w64 (s .args .t .limit) (record { sfits = c .before .struct-told2 .given .1 .1 .1 .0 .1 }),
+      toZ-ofZ w64 (s .args .price) (s .fits .price),
+    )
+
+returns-4 : tie.Need-returns-4
+returns-4 c = rw (c .enum-told4 .given .1)
+
+returns-5 : tie.Need-returns-5
+returns-5 c =
+    let s = c .before .before .before .before in
+    rw (
+      c .before .before .enum-told5 .given .1,
+      same (c .gain3 .result) (c .gain3 .ok),
+      c .gain3 .ensures,
+      toZ-ofZ w64 (s .args .t .limit) (record { sfits = c .before .struct-told3 .given .1 .1 .1 .0 .1 }),
+      toZ-ofZ w64 (s .args .price) (s .fits .price),
+    )
+
+returns-6 : tie.Need-returns-6
+returns-6 c = rw (c .before .before .m .given .1) (same (c .volume-at .result) (c .volume-at .ok) ∙ c .volume-at .ensures .0)
+
+pub sold-spec : {M : Type 1} → statement M
+sold-spec =
+    tie.close
+    (tie.spec
+    enum-told
+    gain-requires
+    enum-told-2
+    enum-told-3
+    gain-requires-2
+    enum-told-4
+    enum-told-5
+    gain-requires-3
+    enum-known-m
+    volume-at-requires
+    returns
+    returns-2
+    returns-3
+    returns-4
+    returns-5
+    returns-6)

@@ -1,0 +1,162 @@
+-- The trade with no bytes: a day, a choice of what is accepted, prices, and what they come to. Zones, periods and rows are numbered from 0.
+-- Prices are hundredths of a euro per MWh, volumes and flows tenths of a MW, so price times volume is in thousandths of a euro.
+-- Assumes nothing.
+use Prim.Native.Nat.{ℕ}
+use mathlib.Core.Bool.{Bool, true, false, cond}
+use lib.IntN.{ℤ, pos, _+ℤ_, _-ℤ_, _*ℤ_}
+use Rattle.whole.specs.Whole.{sum, at, above-zero}
+use Rattle.market.specs.declared.Side.{Side}
+use Rattle.market.specs.declared.Side.the-variants.{Sell, Buy}
+use Rattle.market.specs.declared.Step.{Step}
+use Rattle.market.specs.declared.Block.{Block}
+use Rattle.market.specs.declared.Line.{Line}
+use Rattle.market.specs.declared.Trade.{Trade}
+use Rattle.market.specs.declared.Totals.{Totals}
+
+-- ---- a day, a choice, prices
+
+pub record Day : Type 0 where
+  pub periods : ℕ
+  pub zones : ℕ
+  pub lines : ℕ
+  pub steps : ℕ
+  pub blocks : ℕ
+  -- of a period
+  pub floor : ℕ → ℤ
+  pub ceiling : ℕ → ℤ
+  -- of a line; of a line and a period
+  pub line : ℕ → Line
+  pub forward : ℕ → ℕ → ℤ
+  pub back : ℕ → ℕ → ℤ
+  pub step : ℕ → Step
+  -- of a block; of a block and a period
+  pub block : ℕ → Block
+  pub quantity : ℕ → ℕ → ℕ
+
+pub record Choice : Type 0 where
+  -- of a step: the accepted volume
+  pub volume : ℕ → ℕ
+  -- of a block: accepted or rejected
+  pub taken : ℕ → Bool
+  -- of a line and a period; above zero runs from "from" to "to"
+  pub flow : ℕ → ℕ → ℤ
+
+-- of a zone and a period
+abbrev pub Prices : Type 0
+Prices = ℕ → ℕ → ℤ
+
+-- ---- what a choice accepts
+
+-- a block is accepted whole or not at all
+abbrev pub blockVolume : Bool → ℕ → ℕ
+blockVolume true quantity = quantity
+blockVolume false quantity = 0
+
+abbrev pub stepTrade : Step → ℕ → Trade
+stepTrade s volume = record { zone = s .zone; period = s .period; side = s .side; limit = s .limit; volume = volume }
+
+abbrev pub blockTrade : Block → ℕ → ℕ → Trade
+blockTrade b period volume = record { zone = b .zone; period = period; side = b .side; limit = b .limit; volume = volume }
+
+-- x where the trade is a sell, and where it is a buy
+abbrev pub ofSells : Side → ℤ → ℤ
+ofSells Sell x = x
+ofSells Buy x = pos 0
+
+abbrev pub ofBuys : Side → ℤ → ℤ
+ofBuys Sell x = pos 0
+ofBuys Buy x = x
+
+-- the trade's volume, where it is in this zone and period
+abbrev pub volumeAt : ℕ → ℕ → Trade → ℤ
+volumeAt zone period t = at (t .zone) (at (t .period) (pos (t .volume)) period) zone
+
+-- what a unit gains over its limit at a price
+abbrev pub margin : Side → ℤ → ℤ → ℤ
+margin Sell limit price = price -ℤ limit
+margin Buy limit price = limit -ℤ price
+
+module _ (d : Day) (c : Choice) where
+  -- f summed over all that is accepted: each step, and each block in each of its periods
+  unfoldable pub accepted : (Trade → ℤ) → ℤ
+  accepted f =
+      sum (d .steps) (λ i. f (stepTrade (d .step i) (c .volume i)))
+      +ℤ sum (d .blocks) (λ k. sum (d .periods) (λ h. f (blockTrade (d .block k) h (blockVolume (c .taken k) (d .quantity k h)))))
+
+  abbrev pub sells : (Trade → ℤ) → ℤ
+  sells f = accepted (λ t. ofSells (t .side) (f t))
+
+  abbrev pub buys : (Trade → ℤ) → ℤ
+  buys f = accepted (λ t. ofBuys (t .side) (f t))
+
+  -- Supply of a zone and period: accepted sell steps there, plus the quantities for that period of accepted sell blocks there. Demand
+  -- likewise for buys. Net position is supply less demand.
+  abbrev pub supply : ℕ → ℕ → ℤ
+  supply zone period = sells (volumeAt zone period)
+
+  abbrev pub demand : ℕ → ℕ → ℤ
+  demand zone period = buys (volumeAt zone period)
+
+  abbrev pub netPosition : ℕ → ℕ → ℤ
+  netPosition zone period = supply zone period -ℤ demand zone period
+
+  -- flows leaving and flows entering a zone in a period
+  abbrev pub leaving : ℕ → ℕ → ℤ
+  leaving zone period = sum (d .lines) (λ l. at (d .line l .from) (c .flow l period) zone)
+
+  abbrev pub entering : ℕ → ℕ → ℤ
+  entering zone period = sum (d .lines) (λ l. at (d .line l .to) (c .flow l period) zone)
+
+  -- of one line: its flow where the zone is "from", less its flow where it is "to"
+  abbrev pub lineLeaves : ℕ → ℕ → ℕ → ℤ
+  lineLeaves zone period l = at (d .line l .from) (c .flow l period) zone -ℤ at (d .line l .to) (c .flow l period) zone
+
+-- ---- the totals
+
+module _ (d : Day) (c : Choice) where
+  -- Order value: limit times accepted volume over buys, less the same over sells, blocks included.
+  abbrev pub orderValue : ℤ
+  orderValue = buys d c (λ t. t .limit *ℤ pos (t .volume)) -ℤ sells d c (λ t. t .limit *ℤ pos (t .volume))
+
+  -- Traded volume: all accepted buy volume.
+  abbrev pub tradedVolume : ℤ
+  tradedVolume = buys d c (λ t. pos (t .volume))
+
+module _ (d : Day) (p : Prices) where
+  -- the surplus that the whole block would have at the stated prices, each period at its zone's price
+  unfoldable pub wholeSurplus : ℕ → ℤ
+  wholeSurplus k =
+      sum (d .periods) (λ h. margin (d .block k .side) (d .block k .limit) (p (d .block k .zone) h) *ℤ pos (d .quantity k h))
+
+module _ (d : Day) (p : Prices) (c : Choice) where
+  -- Buyer surplus: (limit - price) times accepted volume over buys.
+  abbrev pub buyerSurplus : ℤ
+  buyerSurplus = buys d c (λ t. (t .limit -ℤ p (t .zone) (t .period)) *ℤ pos (t .volume))
+
+  -- Seller surplus: (price - limit) times accepted volume over sells.
+  abbrev pub sellerSurplus : ℤ
+  sellerSurplus = sells d c (λ t. (p (t .zone) (t .period) -ℤ t .limit) *ℤ pos (t .volume))
+
+  -- Rent: flow times (price at "to" - price at "from").
+  abbrev pub rentAt : ℕ → ℕ → ℤ
+  rentAt l h = c .flow l h *ℤ (p (d .line l .to) h -ℤ p (d .line l .from) h)
+
+  unfoldable pub rent : ℤ
+  rent = sum (d .lines) (λ l. sum (d .periods) (λ h. rentAt l h))
+
+  -- Shortfall: over the rejected blocks, the surplus that the whole block would have had at the stated prices, where above zero, else 0.
+  abbrev pub missed : ℕ → ℤ
+  missed k = cond (c .taken k) (pos 0) (above-zero (wholeSurplus d p k))
+
+  unfoldable pub shortfall : ℤ
+  shortfall = sum (d .blocks) missed
+
+  unfoldable pub totals : Totals
+  totals = record {
+    value = orderValue d c;
+    buyers = buyerSurplus;
+    sellers = sellerSurplus;
+    rent = rent;
+    traded = tradedVolume d c;
+    shortfall = shortfall;
+  }

@@ -1,0 +1,232 @@
+// The trade with no bytes: orders and lines, what is accepted of them, the rules' tests at one place, and what a trade counts.
+ghost use mathlib.Core.Path.{_≡_};
+ghost use mathlib.Core.Bool.{_&&_, _||_, not};
+ghost use lib.Dec.{leb};
+ghost use lib.Signed.{leZ};
+ghost use Prim.Native.Nat.{_≤_};
+ghost use lib.IntN.{pos, negℤ, natAbs, _+ℤ_, _-ℤ_, _*ℤ_};
+ghost use mir.Syntax.{w64};
+ghost use mir.Val.{SFits};
+ghost use Rattle.whole.specs.Whole.{at};
+ghost use Rattle.limits.specs.Limits.{mostPrice, mostFlow, mostVolume};
+ghost use Rattle.market.specs.Market.{volumeAt};
+ghost use Rattle.market.specs.Rules.{equal, fullOrNone, stepOk, lineOk, blockOk};
+ghost use Rattle.market.specs.Measures.{Small, gain, sold, bought, measured};
+
+pub enum Side {
+    Sell,
+    Buy,
+}
+
+pub struct Step {
+    pub zone: usize,
+    pub period: usize,
+    pub side: Side,
+    pub limit: i64,
+    pub quantity: u32,
+}
+
+// A block's quantities stand beside it, one for each period.
+pub struct Block {
+    pub zone: usize,
+    pub side: Side,
+    pub limit: i64,
+}
+
+// A line's capacities stand beside it, two for each period.
+pub struct Line {
+    pub from: usize,
+    pub to: usize,
+}
+
+// What is accepted of an order in one period.
+pub struct Trade {
+    pub zone: usize,
+    pub period: usize,
+    pub side: Side,
+    pub limit: i64,
+    pub volume: u32,
+}
+
+// The six totals of an accepted clearing.
+pub struct Totals {
+    pub value: i64,
+    pub buyers: i64,
+    pub sellers: i64,
+    pub rent: i64,
+    pub traded: i64,
+    pub shortfall: i64,
+}
+
+// The rules of a clearing, 11 to 17.
+pub enum Rule {
+    Price,
+    Capacity,
+    Quantity,
+    Balance,
+    Step,
+    Line,
+    Block,
+}
+
+// What is counted of a trade.
+pub enum Measure {
+    // Its part of the order value.
+    Value,
+    // Its part of the buyers' surplus, and of the sellers'.
+    Buyers,
+    Sellers,
+    // Its part of the traded volume.
+    Traded,
+    // Its surplus, whichever its side.
+    Surplus,
+    // What it brings to a zone and period.
+    Net(usize, usize),
+}
+
+// ---- the rules' tests at one place
+
+pub fn equal(a: i64, b: i64) -> bool
+    ensures { λ r. ⌜ r ≡ equal a b ⌝ }
+{
+    (a <= b) & (b <= a)
+}
+
+fn full_or_none(ask: i64, get: i64, quantity: u32, volume: u32) -> bool
+    ensures { λ r. ⌜ r ≡ fullOrNone ask get quantity volume ⌝ }
+{
+    ((get <= ask) | (volume == quantity)) & ((ask <= get) | (volume == 0))
+}
+
+pub fn step_ok(side: Side, limit: i64, quantity: u32, price: i64, volume: u32) -> bool
+    ensures { λ r. ⌜ r ≡ stepOk side limit quantity price volume ⌝ }
+{
+    match side {
+        Side::Sell => full_or_none(limit, price, quantity, volume),
+        Side::Buy => full_or_none(price, limit, quantity, volume),
+    }
+}
+
+pub fn line_ok(forward: i64, least: i64, from: i64, to: i64, flow: i64) -> bool
+    ensures { λ r. ⌜ r ≡ lineOk forward least from to flow ⌝ }
+{
+    ((to <= from) | ((flow <= forward) & (forward <= flow)))
+        & ((from <= to) | ((flow <= least) & (least <= flow)))
+}
+
+pub fn block_ok(taken: bool, surplus: i64) -> bool
+    ensures { λ r. ⌜ r ≡ blockOk taken surplus ⌝ }
+{
+    !taken | (0 <= surplus)
+}
+
+// ---- what a trade counts
+
+// What is got less what is asked, for each unit of a volume.
+fn gain(get: i64, ask: i64, volume: u32) -> i64
+    requires { ⌜ (natAbs get ≤ mostPrice) × ((natAbs ask ≤ mostPrice) × (volume ≤ mostVolume)) ⌝ }
+    ensures { λ r. ⌜ r ≡ gain get ask volume ⌝ }
+{
+    (get - ask) * volume as i64
+}
+
+pub fn wide(n: u32) -> i64
+    ensures { λ r. ⌜ r ≡ pos n ⌝ }
+{
+    n as i64
+}
+
+fn negative(volume: i64) -> i64
+    requires { ⌜ natAbs volume ≤ mostVolume ⌝ }
+    ensures { λ r. ⌜ r ≡ negℤ volume ⌝ }
+{
+    -volume
+}
+
+fn volume_at(t: Trade, zone: usize, period: usize) -> i64
+    requires { ⌜ t .volume ≤ mostVolume ⌝ }
+    ensures { λ r. ⌜ (r ≡ volumeAt zone period t) × (natAbs r ≤ mostVolume) ⌝ }
+{
+    if (zone == t.zone) & (period == t.period) {
+        wide(t.volume)
+    } else {
+        0
+    }
+}
+
+fn sold(m: Measure, t: Trade, price: i64) -> i64
+    requires { ⌜ Small t price ⌝ }
+    ensures { λ r. ⌜ r ≡ sold m price t ⌝ }
+{
+    match m {
+        Measure::Value => gain(0, t.limit, t.volume),
+        Measure::Buyers => 0,
+        Measure::Sellers => gain(price, t.limit, t.volume),
+        Measure::Traded => 0,
+        Measure::Surplus => gain(price, t.limit, t.volume),
+        Measure::Net(zone, period) => volume_at(t, zone, period),
+    }
+}
+
+fn bought(m: Measure, t: Trade, price: i64) -> i64
+    requires { ⌜ Small t price ⌝ }
+    ensures { λ r. ⌜ r ≡ bought m price t ⌝ }
+{
+    match m {
+        Measure::Value => gain(t.limit, 0, t.volume),
+        Measure::Buyers => gain(t.limit, price, t.volume),
+        Measure::Sellers => 0,
+        Measure::Traded => wide(t.volume),
+        Measure::Surplus => gain(t.limit, price, t.volume),
+        Measure::Net(zone, period) => negative(volume_at(t, zone, period)),
+    }
+}
+
+pub fn measured(m: Measure, t: Trade, price: i64) -> i64
+    requires { ⌜ Small t price ⌝ }
+    ensures { λ r. ⌜ r ≡ measured m price t ⌝ }
+{
+    let side = t.side;
+    match side {
+        Side::Sell => sold(m, t, price),
+        Side::Buy => bought(m, t, price),
+    }
+}
+
+// ---- sums
+
+pub fn add(a: i64, b: i64) -> i64
+    requires { ⌜ SFits w64 (a +ℤ b) ⌝ }
+    ensures { λ r. ⌜ r ≡ a +ℤ b ⌝ }
+{
+    a + b
+}
+
+// A line's flow times how much dearer "to" is than "from".
+pub fn rent(flow: i64, from: i64, to: i64) -> i64
+    requires { ⌜ (natAbs flow ≤ mostFlow) × ((natAbs from ≤ mostPrice) × (natAbs to ≤ mostPrice)) ⌝ }
+    ensures { λ r. ⌜ r ≡ flow *ℤ (to -ℤ from) ⌝ }
+{
+    flow * (to - from)
+}
+
+fn flow_at(end: usize, flow: i64, zone: usize) -> i64
+    ensures { λ r. ⌜ r ≡ at end flow zone ⌝ }
+{
+    if zone == end { flow } else { 0 }
+}
+
+fn less(a: i64, b: i64) -> i64
+    requires { ⌜ SFits w64 (a -ℤ b) ⌝ }
+    ensures { λ r. ⌜ r ≡ a -ℤ b ⌝ }
+{
+    a - b
+}
+
+// What a line takes away from a zone, less what it brings there.
+pub fn leaves(line: Line, flow: i64, zone: usize) -> i64
+    requires { ⌜ natAbs flow ≤ mostFlow ⌝ }
+    ensures { λ r. ⌜ r ≡ at (line .from) flow zone -ℤ at (line .to) flow zone ⌝ }
+{
+    less(flow_at(line.from, flow, zone), flow_at(line.to, flow, zone))
+}

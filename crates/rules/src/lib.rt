@@ -1,0 +1,223 @@
+// The rules 11 to 17 over two files that read without fault: the test at one place, the search for the first broken place, the rules in
+// number order.
+use day::Counts;
+use market::Rule;
+use stages::Fault;
+use stages::Place;
+use stages::Spot;
+ghost use mathlib.Core.Path.{_≡_};
+ghost use mathlib.Core.List.{[], _∷_};
+ghost use Prim.Native.Nat.{_<_};
+ghost use Rattle.stages.specs.Stage.{spot, firstFault, orFault};
+ghost use Rattle.market.specs.Rules.{number};
+ghost use Rattle.market.specs.declared.Rule.the-variants.{Price, Capacity, Quantity, Balance, Step, Line, Block};
+ghost use Rattle.book.specs.Of.{OfFiles};
+ghost use Rattle.rules.specs.Judge.{rowsOf, columnsOf, test, stage, stages};
+
+// ---- the test at one place
+
+fn price_holds(day: &[u8], clearing: &[u8], counts: Counts, zone: usize, period: usize) -> bool
+    requires { ⌜ (OfFiles (now day) (now clearing) counts) × ((zone < counts .zones) × (period < counts .periods)) ⌝ }
+    ensures { λ r. ⌜ r ≡ test counts (now (day .entry)) (now (clearing .entry)) Price zone period ⌝ }
+{
+    limits::between(
+        book::price_of(clearing, counts, zone, period),
+        book::floor_of(day, counts, period),
+        book::ceiling_of(day, counts, period),
+    )
+}
+
+fn capacity_holds(day: &[u8], clearing: &[u8], counts: Counts, line: usize, period: usize) -> bool
+    requires { ⌜ (OfFiles (now day) (now clearing) counts) × ((line < counts .lines) × (period < counts .periods)) ⌝ }
+    ensures { λ r. ⌜ r ≡ test counts (now (day .entry)) (now (clearing .entry)) Capacity line period ⌝ }
+{
+    limits::between(
+        book::flow_of(clearing, counts, line, period),
+        book::least_flow_of(day, counts, line, period),
+        book::forward_of(day, counts, line, period),
+    )
+}
+
+fn quantity_holds(day: &[u8], clearing: &[u8], counts: Counts, i: usize) -> bool
+    requires { ⌜ (OfFiles (now day) (now clearing) counts) × (i < counts .steps) ⌝ }
+    ensures { λ r. ⌜ r ≡ test counts (now (day .entry)) (now (clearing .entry)) Quantity i 0 ⌝ }
+{
+    let step = book::step_of(day, counts, i);
+    book::volume_of(clearing, counts, i) <= step.quantity
+}
+
+fn balance_holds(day: &[u8], clearing: &[u8], counts: Counts, zone: usize, period: usize) -> bool
+    requires { ⌜ (OfFiles (now day) (now clearing) counts) × (period < counts .periods) ⌝ }
+    ensures { λ r. ⌜ r ≡ test counts (now (day .entry)) (now (clearing .entry)) Balance zone period ⌝ }
+{
+    market::equal(
+        totals::net_position(day, clearing, counts, zone, period),
+        totals::net_flow(day, clearing, counts, zone, period),
+    )
+}
+
+fn step_holds(day: &[u8], clearing: &[u8], counts: Counts, i: usize) -> bool
+    requires { ⌜ (OfFiles (now day) (now clearing) counts) × (i < counts .steps) ⌝ }
+    ensures { λ r. ⌜ r ≡ test counts (now (day .entry)) (now (clearing .entry)) Step i 0 ⌝ }
+{
+    let step = book::step_of(day, counts, i);
+    market::step_ok(
+        step.side,
+        step.limit,
+        step.quantity,
+        book::price_of(clearing, counts, step.zone, step.period),
+        book::volume_of(clearing, counts, i),
+    )
+}
+
+fn line_holds(day: &[u8], clearing: &[u8], counts: Counts, line: usize, period: usize) -> bool
+    requires { ⌜ (OfFiles (now day) (now clearing) counts) × ((line < counts .lines) × (period < counts .periods)) ⌝ }
+    ensures { λ r. ⌜ r ≡ test counts (now (day .entry)) (now (clearing .entry)) Line line period ⌝ }
+{
+    let ends = book::line_of(day, counts, line);
+    market::line_ok(
+        book::forward_of(day, counts, line, period),
+        book::least_flow_of(day, counts, line, period),
+        book::price_of(clearing, counts, ends.from, period),
+        book::price_of(clearing, counts, ends.to, period),
+        book::flow_of(clearing, counts, line, period),
+    )
+}
+
+fn block_holds(day: &[u8], clearing: &[u8], counts: Counts, k: usize) -> bool
+    requires { ⌜ (OfFiles (now day) (now clearing) counts) × (k < counts .blocks) ⌝ }
+    ensures { λ r. ⌜ r ≡ test counts (now (day .entry)) (now (clearing .entry)) Block k 0 ⌝ }
+{
+    market::block_ok(
+        book::taken_of(clearing, counts, k),
+        totals::whole_surplus(day, clearing, counts, k),
+    )
+}
+
+fn holds_at(
+    rule: Rule,
+    day: &[u8],
+    clearing: &[u8],
+    counts: Counts,
+    row: usize,
+    column: usize,
+) -> bool
+    requires { ⌜ (OfFiles (now day) (now clearing) counts) × ((row < rowsOf counts rule) × (column < columnsOf counts rule)) ⌝ }
+    ensures { λ r. ⌜ r ≡ test counts (now (day .entry)) (now (clearing .entry)) rule row column ⌝ }
+{
+    match rule {
+        Rule::Price => price_holds(day, clearing, counts, row, column),
+        Rule::Capacity => capacity_holds(day, clearing, counts, row, column),
+        Rule::Quantity => quantity_holds(day, clearing, counts, row),
+        Rule::Balance => balance_holds(day, clearing, counts, row, column),
+        Rule::Step => step_holds(day, clearing, counts, row),
+        Rule::Line => line_holds(day, clearing, counts, row, column),
+        Rule::Block => block_holds(day, clearing, counts, row),
+    }
+}
+
+// ---- a rule's places, and its number
+
+fn rows_of(rule: Rule, counts: Counts) -> usize
+    ensures { λ r. ⌜ r ≡ rowsOf counts rule ⌝ }
+{
+    match rule {
+        Rule::Price => counts.zones,
+        Rule::Capacity => counts.lines,
+        Rule::Quantity => counts.steps,
+        Rule::Balance => counts.zones,
+        Rule::Step => counts.steps,
+        Rule::Line => counts.lines,
+        Rule::Block => counts.blocks,
+    }
+}
+
+fn columns_of(rule: Rule, counts: Counts) -> usize
+    ensures { λ r. ⌜ r ≡ columnsOf counts rule ⌝ }
+{
+    match rule {
+        Rule::Price => counts.periods,
+        Rule::Capacity => counts.periods,
+        Rule::Quantity => 1,
+        Rule::Balance => counts.periods,
+        Rule::Step => 1,
+        Rule::Line => counts.periods,
+        Rule::Block => 1,
+    }
+}
+
+fn number_of(rule: Rule) -> u8
+    ensures { λ r. ⌜ r ≡ number rule ⌝ }
+{
+    match rule {
+        Rule::Price => 11,
+        Rule::Capacity => 12,
+        Rule::Quantity => 13,
+        Rule::Balance => 14,
+        Rule::Step => 15,
+        Rule::Line => 16,
+        Rule::Block => 17,
+    }
+}
+
+// ---- the search
+
+// Row by row, and in a row column by column, to the first place at which the rule is broken.
+fn first_broken(rule: Rule, day: &[u8], clearing: &[u8], counts: Counts) -> Spot
+    requires { ⌜ OfFiles (now day) (now clearing) counts ⌝ }
+    ensures { λ r. ⌜ r ≡ spot (stage counts (now (day .entry)) (now (clearing .entry)) rule) ⌝ }
+{
+    let rows = rows_of(rule, counts);
+    let columns = columns_of(rule, counts);
+    let mut spot = Spot::Nowhere;
+    'scan: for row in 0..rows {
+        for column in 0..columns {
+            if !holds_at(rule, day, clearing, counts, row, column) {
+                spot = Spot::Cell(row, column);
+                break 'scan;
+            }
+        }
+    }
+    spot
+}
+
+fn fault_of(rule: Rule, day: &[u8], clearing: &[u8], counts: Counts) -> Fault
+    requires { ⌜ OfFiles (now day) (now clearing) counts ⌝ }
+    ensures { λ r. ⌜ r ≡ firstFault (stage counts (now (day .entry)) (now (clearing .entry)) rule ∷ []) ⌝ }
+{
+    match first_broken(rule, day, clearing, counts) {
+        Spot::Cell(row, column) => Fault::Broken(
+            number_of(rule),
+            Place {
+                first: row,
+                second: column,
+            },
+        ),
+        Spot::Nowhere => Fault::Clean,
+    }
+}
+
+// A fault that was found stays; else this rule is judged.
+fn judged(rule: Rule, day: &[u8], clearing: &[u8], counts: Counts, before: Fault) -> Fault
+    requires { ⌜ OfFiles (now day) (now clearing) counts ⌝ }
+    ensures { λ r. ⌜ r ≡ orFault before (firstFault (stage counts (now (day .entry)) (now (clearing .entry)) rule ∷ [])) ⌝ }
+{
+    match before {
+        Fault::Broken(k, p) => Fault::Broken(k, p),
+        Fault::Clean => fault_of(rule, day, clearing, counts),
+    }
+}
+
+// The rules in number order.
+pub fn first_fault(day: &[u8], clearing: &[u8], counts: Counts) -> Fault
+    requires { ⌜ OfFiles (now day) (now clearing) counts ⌝ }
+    ensures { λ r. ⌜ r ≡ firstFault (stages counts (now (day .entry)) (now (clearing .entry))) ⌝ }
+{
+    let fault = fault_of(Rule::Price, day, clearing, counts);
+    let fault = judged(Rule::Capacity, day, clearing, counts, fault);
+    let fault = judged(Rule::Quantity, day, clearing, counts, fault);
+    let fault = judged(Rule::Balance, day, clearing, counts, fault);
+    let fault = judged(Rule::Step, day, clearing, counts, fault);
+    let fault = judged(Rule::Line, day, clearing, counts, fault);
+    judged(Rule::Block, day, clearing, counts, fault)
+}

@@ -1,0 +1,2 @@
+-- What is meant: the sums over the rows of two files, as their loops make them.
+pub mod Sums

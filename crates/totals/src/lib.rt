@@ -1,0 +1,284 @@
+// The sums over the rows of two files that read without fault: net positions, the six totals.
+use day::Counts;
+use market::Block;
+use market::Measure;
+use market::Totals;
+use market::Trade;
+ghost use mathlib.Core.Path.{_≡_};
+ghost use mathlib.Core.Bool.{cond};
+ghost use Prim.Native.Nat.{_<_, _≤_};
+ghost use lib.IntN.{pos, natAbs};
+ghost use Rattle.whole.specs.Whole.{sum, above-zero};
+ghost use Rattle.market.specs.Market.{blockVolume, blockTrade};
+ghost use Rattle.book.specs.Of.{OfFiles};
+ghost use Rattle.totals.specs.Sums as sums;
+
+// ---- the steps
+
+fn step_trade(day: &[u8], clearing: &[u8], counts: Counts, i: usize) -> Trade
+    requires { ⌜ (OfFiles (now day) (now clearing) counts) × (i < counts .steps) ⌝ }
+    ensures { λ r. ⌜ r ≡ sums.stepTrade (now (day .entry)) (now (clearing .entry)) i ⌝ }
+{
+    let step = book::step_of(day, counts, i);
+    let side = step.side;
+    Trade {
+        zone: step.zone,
+        period: step.period,
+        side,
+        limit: step.limit,
+        volume: book::volume_of(clearing, counts, i),
+    }
+}
+
+// What a trade counts at the price of its zone and period.
+fn priced(m: Measure, t: Trade, clearing: &[u8], counts: Counts) -> i64
+    requires { ⌜ sums.Priceable (now clearing) counts t ⌝ }
+    ensures { λ r. ⌜ r ≡ sums.pricedIn (now (clearing .entry)) counts m t ⌝ }
+{
+    market::measured(m, t, book::price_of(clearing, counts, t.zone, t.period))
+}
+
+fn one_step(m: Measure, day: &[u8], clearing: &[u8], counts: Counts, i: usize) -> i64
+    requires { ⌜ (OfFiles (now day) (now clearing) counts) × (i < counts .steps) ⌝ }
+    ensures { λ r. ⌜ r ≡ sums.oneStep counts (now (day .entry)) (now (clearing .entry)) m i ⌝ }
+{
+    priced(m, step_trade(day, clearing, counts, i), clearing, counts)
+}
+
+fn over_steps(m: Measure, day: &[u8], clearing: &[u8], counts: Counts) -> i64
+    requires { ⌜ OfFiles (now day) (now clearing) counts ⌝ }
+    ensures { λ r. ⌜ r ≡ sum (counts .steps) (sums.oneStep counts (now (day .entry)) (now (clearing .entry)) m) ⌝ }
+{
+    let mut all: i64 = 0;
+    for i in 0..counts.steps {
+        all = market::add(all, one_step(m, day, clearing, counts, i));
+    }
+    all
+}
+
+// ---- the blocks
+
+fn block_volume(taken: bool, quantity: u32) -> u32
+    ensures { λ r. ⌜ r ≡ blockVolume taken quantity ⌝ }
+{
+    if taken { quantity } else { 0 }
+}
+
+fn block_trade(block: Block, period: usize, volume: u32) -> Trade
+    ensures { λ r. ⌜ r ≡ blockTrade block period volume ⌝ }
+{
+    let side = block.side;
+    Trade {
+        zone: block.zone,
+        period,
+        side,
+        limit: block.limit,
+        volume,
+    }
+}
+
+fn one_period(
+    m: Measure,
+    day: &[u8],
+    clearing: &[u8],
+    counts: Counts,
+    k: usize,
+    taken: bool,
+    period: usize,
+) -> i64
+    requires { ⌜ (OfFiles (now day) (now clearing) counts) × ((k < counts .blocks) × (period < counts .periods)) ⌝ }
+    ensures { λ r. ⌜ r ≡ sums.onePeriod counts (now (day .entry)) (now (clearing .entry)) m k taken period ⌝ }
+{
+    priced(
+        m,
+        block_trade(
+            book::block_of(day, counts, k),
+            period,
+            block_volume(taken, book::quantity_of(day, counts, k, period)),
+        ),
+        clearing,
+        counts,
+    )
+}
+
+// A block in all its periods, as if it were taken or not.
+fn whole_block(
+    m: Measure,
+    day: &[u8],
+    clearing: &[u8],
+    counts: Counts,
+    k: usize,
+    taken: bool,
+) -> i64
+    requires { ⌜ (OfFiles (now day) (now clearing) counts) × (k < counts .blocks) ⌝ }
+    ensures { λ r. ⌜ r ≡ sums.wholeBlock counts (now (day .entry)) (now (clearing .entry)) m k taken ⌝ }
+{
+    let mut all: i64 = 0;
+    for period in 0..counts.periods {
+        all = market::add(all, one_period(m, day, clearing, counts, k, taken, period));
+    }
+    all
+}
+
+fn one_block(m: Measure, day: &[u8], clearing: &[u8], counts: Counts, k: usize) -> i64
+    requires { ⌜ (OfFiles (now day) (now clearing) counts) × (k < counts .blocks) ⌝ }
+    ensures { λ r. ⌜ r ≡ sums.oneBlock counts (now (day .entry)) (now (clearing .entry)) m k ⌝ }
+{
+    whole_block(
+        m,
+        day,
+        clearing,
+        counts,
+        k,
+        book::taken_of(clearing, counts, k),
+    )
+}
+
+fn over_blocks(m: Measure, day: &[u8], clearing: &[u8], counts: Counts) -> i64
+    requires { ⌜ OfFiles (now day) (now clearing) counts ⌝ }
+    ensures { λ r. ⌜ r ≡ sum (counts .blocks) (sums.oneBlock counts (now (day .entry)) (now (clearing .entry)) m) ⌝ }
+{
+    let mut all: i64 = 0;
+    for k in 0..counts.blocks {
+        all = market::add(all, one_block(m, day, clearing, counts, k));
+    }
+    all
+}
+
+// ---- over all that is accepted
+
+fn everything(m: Measure, day: &[u8], clearing: &[u8], counts: Counts) -> i64
+    requires { ⌜ OfFiles (now day) (now clearing) counts ⌝ }
+    ensures { λ r. ⌜ r ≡ sums.everything counts (now (day .entry)) (now (clearing .entry)) m ⌝ }
+{
+    market::add(
+        over_steps(m, day, clearing, counts),
+        over_blocks(m, day, clearing, counts),
+    )
+}
+
+pub fn net_position(day: &[u8], clearing: &[u8], counts: Counts, zone: usize, period: usize) -> i64
+    requires { ⌜ OfFiles (now day) (now clearing) counts ⌝ }
+    ensures { λ r. ⌜ r ≡ sums.netPosition counts (now (day .entry)) (now (clearing .entry)) zone period ⌝ }
+{
+    everything(Measure::Net(zone, period), day, clearing, counts)
+}
+
+// ---- the shortfall
+
+pub fn whole_surplus(day: &[u8], clearing: &[u8], counts: Counts, k: usize) -> i64
+    requires { ⌜ (OfFiles (now day) (now clearing) counts) × (k < counts .blocks) ⌝ }
+    ensures { λ r. ⌜ r ≡ sums.wholeSurplus counts (now (day .entry)) (now (clearing .entry)) k ⌝ }
+{
+    whole_block(Measure::Surplus, day, clearing, counts, k, true)
+}
+
+fn missed_by(taken: bool, surplus: i64) -> i64
+    ensures { λ r. ⌜ r ≡ cond taken (pos 0) (above-zero surplus) ⌝ }
+{
+    if !taken & (0 < surplus) { surplus } else { 0 }
+}
+
+fn missed(day: &[u8], clearing: &[u8], counts: Counts, k: usize) -> i64
+    requires { ⌜ (OfFiles (now day) (now clearing) counts) × (k < counts .blocks) ⌝ }
+    ensures { λ r. ⌜ r ≡ sums.missed counts (now (day .entry)) (now (clearing .entry)) k ⌝ }
+{
+    missed_by(
+        book::taken_of(clearing, counts, k),
+        whole_surplus(day, clearing, counts, k),
+    )
+}
+
+fn shortfall(day: &[u8], clearing: &[u8], counts: Counts) -> i64
+    requires { ⌜ OfFiles (now day) (now clearing) counts ⌝ }
+    ensures { λ r. ⌜ r ≡ sum (counts .blocks) (sums.missed counts (now (day .entry)) (now (clearing .entry))) ⌝ }
+{
+    let mut all: i64 = 0;
+    for k in 0..counts.blocks {
+        all = market::add(all, missed(day, clearing, counts, k));
+    }
+    all
+}
+
+// ---- the lines
+
+// The flow of a line and period, times how much dearer "to" is than "from".
+fn rent_at(day: &[u8], clearing: &[u8], counts: Counts, line: usize, period: usize) -> i64
+    requires { ⌜ (OfFiles (now day) (now clearing) counts) × ((line < counts .lines) × (period < counts .periods)) ⌝ }
+    ensures { λ r. ⌜ r ≡ sums.rentAt counts (now (day .entry)) (now (clearing .entry)) line period ⌝ }
+{
+    let ends = book::line_of(day, counts, line);
+    market::rent(
+        book::flow_of(clearing, counts, line, period),
+        book::price_of(clearing, counts, ends.from, period),
+        book::price_of(clearing, counts, ends.to, period),
+    )
+}
+
+fn line_rent(day: &[u8], clearing: &[u8], counts: Counts, line: usize) -> i64
+    requires { ⌜ (OfFiles (now day) (now clearing) counts) × (line < counts .lines) ⌝ }
+    ensures { λ r. ⌜ r ≡ sums.lineRent counts (now (day .entry)) (now (clearing .entry)) line ⌝ }
+{
+    let mut all: i64 = 0;
+    for period in 0..counts.periods {
+        all = market::add(all, rent_at(day, clearing, counts, line, period));
+    }
+    all
+}
+
+fn rent(day: &[u8], clearing: &[u8], counts: Counts) -> i64
+    requires { ⌜ OfFiles (now day) (now clearing) counts ⌝ }
+    ensures { λ r. ⌜ r ≡ sum (counts .lines) (sums.lineRent counts (now (day .entry)) (now (clearing .entry))) ⌝ }
+{
+    let mut all: i64 = 0;
+    for line in 0..counts.lines {
+        all = market::add(all, line_rent(day, clearing, counts, line));
+    }
+    all
+}
+
+fn line_leaves(
+    day: &[u8],
+    clearing: &[u8],
+    counts: Counts,
+    zone: usize,
+    period: usize,
+    line: usize,
+) -> i64
+    requires { ⌜ (OfFiles (now day) (now clearing) counts) × ((line < counts .lines) × (period < counts .periods)) ⌝ }
+    ensures { λ r. ⌜ r ≡ sums.lineLeaves counts (now (day .entry)) (now (clearing .entry)) zone period line ⌝ }
+{
+    market::leaves(
+        book::line_of(day, counts, line),
+        book::flow_of(clearing, counts, line, period),
+        zone,
+    )
+}
+
+// Flows leaving a zone in a period, less flows entering it.
+pub fn net_flow(day: &[u8], clearing: &[u8], counts: Counts, zone: usize, period: usize) -> i64
+    requires { ⌜ (OfFiles (now day) (now clearing) counts) × (period < counts .periods) ⌝ }
+    ensures { λ r. ⌜ r ≡ sums.netFlow counts (now (day .entry)) (now (clearing .entry)) zone period ⌝ }
+{
+    let mut all: i64 = 0;
+    for line in 0..counts.lines {
+        all = market::add(all, line_leaves(day, clearing, counts, zone, period, line));
+    }
+    all
+}
+
+// ---- the totals
+
+pub fn totals_of(day: &[u8], clearing: &[u8], counts: Counts) -> Totals
+    requires { ⌜ OfFiles (now day) (now clearing) counts ⌝ }
+    ensures { λ r. ⌜ r ≡ sums.totals counts (now (day .entry)) (now (clearing .entry)) ⌝ }
+{
+    Totals {
+        value: everything(Measure::Value, day, clearing, counts),
+        buyers: everything(Measure::Buyers, day, clearing, counts),
+        sellers: everything(Measure::Sellers, day, clearing, counts),
+        rent: rent(day, clearing, counts),
+        traded: everything(Measure::Traded, day, clearing, counts),
+        shortfall: shortfall(day, clearing, counts),
+    }
+}
