@@ -61,8 +61,9 @@ fn step_holds(day: &[u8], clearing: &[u8], counts: Counts, i: usize) -> bool
     ensures { λ r. ⌜ r ≡ test counts (now (day .entry)) (now (clearing .entry)) Step i 0 ⌝ }
 {
     let step = book::step_of(day, counts, i);
+    let side = step.side;
     market::step_ok(
-        step.side,
+        side,
         step.limit,
         step.quantity,
         book::price_of(clearing, counts, step.zone, step.period),
@@ -198,11 +199,11 @@ fn fault_of(rule: Rule, day: &[u8], clearing: &[u8], counts: Counts) -> Fault
 }
 
 // A fault that was found stays; else this rule is judged.
-fn judged(rule: Rule, day: &[u8], clearing: &[u8], counts: Counts, before: Fault) -> Fault
+fn judged(rule: Rule, day: &[u8], clearing: &[u8], counts: Counts, earlier: Fault) -> Fault
     requires { ⌜ OfFiles (now day) (now clearing) counts ⌝ }
-    ensures { λ r. ⌜ r ≡ orFault before (firstFault (stage counts (now (day .entry)) (now (clearing .entry)) rule ∷ [])) ⌝ }
+    ensures { λ r. ⌜ r ≡ orFault earlier (firstFault (stage counts (now (day .entry)) (now (clearing .entry)) rule ∷ [])) ⌝ }
 {
-    match before {
+    match earlier {
         Fault::Broken(k, p) => Fault::Broken(k, p),
         Fault::Clean => fault_of(rule, day, clearing, counts),
     }

@@ -1,4 +1,5 @@
 // The statement's bytes in a lent room.
+use day::Counts;
 use market::Totals;
 ghost use mathlib.Core.Path.{_≡_};
 ghost use Prim.Native.Nat.{_+_, _≤_};
@@ -6,7 +7,10 @@ ghost use lib.ListN.{length};
 ghost use mir.Syntax.{w32};
 ghost use mir.Val.{SFits};
 ghost use Rattle.wire.specs.Bytes.{bits32, bytes32, put};
-ghost use Rattle.statement.specs.Statement.{head};
+ghost use Rattle.day.specs.Good.{InLimits};
+ghost use Rattle.book.specs.Of.{OfFiles};
+ghost use Rattle.statement.specs.Statement.{head, nets, statement, statementLength};
+ghost use Rattle.statement.specs.Of.{netCount, flowRow, netRow, Balanced};
 
 pub fn put_head(room: &mut [u8], t: Totals, n: u16)
     requires { ⌜ 52 ≤ length (now room) ⌝ }
@@ -34,4 +38,44 @@ pub fn put_net(room: &mut [u8], at: usize, v: i64)
     ensures { λ r. ⌜ now (room .exit) ≡ put (now (room .entry)) at (bytes32 (bits32 v)) ⌝ }
 {
     wire::put_i32(room, at, narrow(v));
+}
+
+// How long the statement of a day is.
+pub fn statement_length(counts: Counts) -> usize
+    requires { ⌜ InLimits counts ⌝ }
+    ensures { λ r. ⌜ r ≡ statementLength (netCount counts) ⌝ }
+{
+    52 + 4 * (counts.zones * counts.periods)
+}
+
+// The net positions, ordered like prices. In a balanced clearing a net position is what its lines carry away, so the steps are not read again.
+fn put_nets(room: &mut [u8], day: &[u8], clearing: &[u8], counts: Counts)
+    requires { ⌜ (OfFiles (now day) (now clearing) counts) × (statementLength (netCount counts) ≤ length (now room)) ⌝ }
+    ensures { λ r. ⌜ now (room .exit) ≡ put (now (room .entry)) 52 (nets (flowRow counts (now (day .entry)) (now (clearing .entry))) (netCount counts)) ⌝ }
+{
+    let periods = counts.periods;
+    let n = counts.zones * periods;
+    for k in 0..n {
+        put_net(
+            room,
+            52 + 4 * k,
+            totals::net_flow(day, clearing, counts, k / periods, k % periods),
+        );
+    }
+}
+
+fn count_of(counts: Counts) -> u16
+    requires { ⌜ InLimits counts ⌝ }
+    ensures { λ r. ⌜ r ≡ netCount counts ⌝ }
+{
+    (counts.zones * counts.periods) as u16
+}
+
+pub fn put_statement(room: &mut [u8], day: &[u8], clearing: &[u8], counts: Counts, t: Totals)
+    requires { ⌜ (OfFiles (now day) (now clearing) counts) × (statementLength (netCount counts) ≤ length (now room)) ⌝ }
+    requires { ⌜ Balanced counts (now day) (now clearing) ⌝ }
+    ensures { λ r. ⌜ now (room .exit) ≡ put (now (room .entry)) 0 (statement t (netRow counts (now (day .entry)) (now (clearing .entry))) (netCount counts)) ⌝ }
+{
+    put_head(room, t, count_of(counts));
+    put_nets(room, day, clearing, counts);
 }

@@ -1,0 +1,16 @@
+-- `totals::whole_surplus` meets its contract. Assumes nothing.
+use mathlib.Core.Path.{_∙_}
+use Rattle.whole.specs.Size.{same}
+use Rattle.market.specs.MeasureLaws.{whole-is}
+use borrow.Author.Needs.{needs}
+use Rattle.totals.proofs.whole_surplus.Statement.{statement}
+use Rattle.totals.proofs.whole_surplus.Tie as tie
+
+whole-block-requires : tie.Need-whole-block-requires
+whole-block-requires c κs = search needs
+
+returns : tie.Need-returns
+returns c = same (c .whole-block .result) (c .whole-block .ok) ∙ c .whole-block .ensures ∙ whole-is _ _ _
+
+pub whole-surplus-spec : {M : Type 1} → statement M
+whole-surplus-spec = tie.close (tie.spec whole-block-requires returns)

@@ -1,0 +1,78 @@
+// The verdict on a day file and a clearing file: accepted with its totals, and a statement in the lent room; or refused with a number and
+// a place.
+use clearing::Files;
+use day::Counts;
+use market::Totals;
+use stages::Fault;
+use stages::Place;
+ghost use mathlib.Core.Path.{_≡_};
+ghost use lib.ListN.{length};
+ghost use Rattle.book.specs.Of.{OfFiles};
+ghost use Rattle.verdict.specs.Verdict.{verdict, leaves, givenTotals};
+ghost use Rattle.verdict.specs.Steps.{fromRules, fromRoom, Released};
+
+pub enum Outcome {
+    Accepted(Totals),
+    Refused(u8, Place),
+}
+
+// ---- one after the other: the files, the rules, the room
+
+fn from_room(day: &[u8], clearing: &[u8], counts: Counts, room: &mut [u8]) -> Outcome
+    requires { ⌜ Released (now day) (now clearing) counts ⌝ }
+    ensures said { λ r. ⌜ r ≡ fromRoom (now (day .entry)) (now (clearing .entry)) (length (now (room .entry))) ⌝ }
+    ensures left { λ r. ⌜ now (room .exit) ≡ leaves (now (day .entry)) (now (clearing .entry)) r (now (room .entry)) ⌝ }
+{
+    if room.len() < statement::statement_length(counts) {
+        return Outcome::Refused(
+            18,
+            Place {
+                first: 0,
+                second: 0,
+            },
+        );
+    }
+    let totals = totals::totals_of(day, clearing, counts);
+    statement::put_statement(room, day, clearing, counts, totals);
+    Outcome::Accepted(totals)
+}
+
+fn from_rules(day: &[u8], clearing: &[u8], counts: Counts, room: &mut [u8]) -> Outcome
+    requires { ⌜ OfFiles (now day) (now clearing) counts ⌝ }
+    ensures said { λ r. ⌜ r ≡ fromRules (now (day .entry)) (now (clearing .entry)) (length (now (room .entry))) ⌝ }
+    ensures left { λ r. ⌜ now (room .exit) ≡ leaves (now (day .entry)) (now (clearing .entry)) r (now (room .entry)) ⌝ }
+{
+    match rules::first_fault(day, clearing, counts) {
+        Fault::Broken(number, place) => Outcome::Refused(number, place),
+        Fault::Clean => from_room(day, clearing, counts, room),
+    }
+}
+
+// Judges any two byte strings.
+pub fn check(day: &[u8], clearing: &[u8], room: &mut [u8]) -> Outcome
+    ensures said { λ r. ⌜ r ≡ verdict (now (day .entry)) (now (clearing .entry)) (length (now (room .entry))) ⌝ }
+    ensures left { λ r. ⌜ now (room .exit) ≡ leaves (now (day .entry)) (now (clearing .entry)) r (now (room .entry)) ⌝ }
+{
+    match clearing::read_files(day, clearing) {
+        Files::Bad(number, place) => Outcome::Refused(number, place),
+        Files::Good(counts) => from_rules(day, clearing, counts, room),
+    }
+}
+
+// ---- the totals asked of an outcome: zeros where it is refused
+
+pub fn given_totals(outcome: Outcome) -> Totals
+    ensures { λ r. ⌜ r ≡ givenTotals outcome ⌝ }
+{
+    match outcome {
+        Outcome::Accepted(totals) => totals,
+        Outcome::Refused(_, _) => Totals {
+            value: 0,
+            buyers: 0,
+            sellers: 0,
+            rent: 0,
+            traded: 0,
+            shortfall: 0,
+        },
+    }
+}
