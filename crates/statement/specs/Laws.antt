@@ -43,6 +43,9 @@ nets-cong f g (suc n) h = rw (nets-cong f g n (λ k l. h k (omega arith)), h n (
 
 -- ---- stores one after the other
 
+put-nothing : (s : List ℕ) (at : ℕ) → put s at [] ≡ s
+put-nothing s at = rw (append-nil, add-zero, take-append-drop)
+
 -- each right behind the one before
 abbrev puts : List ℕ → ℕ → List (List ℕ) → List ℕ
 puts s at [] = s
@@ -53,7 +56,7 @@ joined [] = []
 joined (b ∷ bs) = b ++ joined bs
 
 puts-joined : (bs : List (List ℕ)) (s : List ℕ) (at : ℕ) → at + length (joined bs) ≤ length s → puts s at bs ≡ put s at (joined bs)
-puts-joined [] s at h = rw (append-nil, add-zero, take-append-drop)
+puts-joined [] s at h = sym (put-nothing s at)
 puts-joined (b ∷ bs) s at h =
     let l : at + (length b + length (joined bs)) ≤ length s = rw (← length-append b (joined bs)) h in
     puts-joined bs (put s at b) (at + length b) (rw (put-length s at b (omega arith)) (omega arith)) ∙ put-put s at b (joined bs) h
@@ -94,6 +97,10 @@ head-stored t n room h =
 put-behind : (s : List ℕ) (at : ℕ) (a b : List ℕ) (place : ℕ) → place ≡ at + length a → place + length b ≤ length s →
     put (put s at a) place b ≡ put s at (a ++ b)
 put-behind s at a b place e h = rw e (put-put s at a b (omega (arith, length-append a b)))
+
+pub nets-none : (room : List ℕ) (net : ℕ → ℤ) → put room 52 (nets net 0) ≡ room
+unfolding nets
+nets-none room net = put-nothing room 52
 
 pub net-more : (room : List ℕ) (net : ℕ → ℤ) (k : ℕ) → 52 + 4 * (k + 1) ≤ length room →
     put (put room 52 (nets net k)) (52 + 4 * k) (bytes32 (bits32 (net k))) ≡ put room 52 (nets net (k + 1))

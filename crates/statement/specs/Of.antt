@@ -1,13 +1,21 @@
 -- The rows of a statement's net positions, ordered like prices. Assumes nothing.
-use Prim.Native.Nat.{ℕ, _+_, _*_, _/_, _%_, _<_}
+use Prim.Native.Nat.{ℕ, _+_, _*_, _/_, _%_, _<_, _≤_}
+use native.Mathlib.Nat.{le-refl, div-lt-iff-lt-mul, mod-lt}
 use native.Mathlib.Omega.{arith}
-use mathlib.Core.Path.{_≡_}
+use mathlib.Core.Path.{_≡_, sym}
 use mathlib.Core.List.{List}
 use lib.IntN.{ℤ}
+use lib.Arith.{digits-div, digits-mod}
+use mir.Syntax.{w32}
+use mir.Val.{SFits}
+use Rattle.whole.specs.Size.{fits-i32}
 use Rattle.market.specs.Market.{netPosition}
 use Rattle.market.specs.Rules.{BalanceAt}
+use Rattle.market.specs.MeasureLaws.{flows-size, net-flow-is}
 use Rattle.day.specs.declared.Counts.{Counts}
 use Rattle.book.specs.Book.{dayOf, pricesOf, choiceOf}
+use Rattle.book.specs.Of.{OfFiles}
+use Rattle.book.specs.Ranges.{placed, ranged}
 use Rattle.totals.specs.Sums.{netFlow}
 
 -- so many net positions
@@ -29,3 +37,31 @@ module _ (c : Counts) (day clearing : List ℕ) where
   -- the two are the same where the clearing is balanced
   abbrev pub Balanced : Type 0
   Balanced = (zone period : ℕ) → zone < c .zones → period < c .periods → BalanceAt (dayOf c day) (pricesOf c clearing) (choiceOf c clearing) zone period
+
+-- ---- a row's zone and period, and the row of a zone and a period
+
+pub row-zone : {k zones periods : ℕ} → k < zones * periods → 1 ≤ periods → k / periods < zones
+row-zone l h = div-lt-iff-lt-mul h .1 l
+
+pub row-period : (k : ℕ) {periods : ℕ} → 1 ≤ periods → k % periods < periods
+row-period k h = mod-lt k h
+
+pub cell-row : (f : ℕ → ℕ → ℤ) (periods zone period : ℕ) → period < periods → inRow periods f (zone * periods + period) ≡ f zone period
+cell-row f periods zone period l = rw (digits-div zone l, digits-mod zone l)
+
+-- ---- the rows of two files that read without fault
+
+module _ {day clearing : List ℕ} {c : Counts} (o : OfFiles day clearing c) (k : ℕ) where
+  pub flow-row-fits : SFits w32 (flowRow c day clearing k)
+  flow-row-fits =
+      let h = c .periods in
+      let below = row-period k (o .of-clearing .limits .periods-least) in
+      let size = flows-size _ _ _ (placed (o .of-day)) (ranged o) (c .lines) (k / h) (k % h) (le-refl (c .lines)) below in
+      let is = net-flow-is (dayOf c day) (pricesOf c clearing) (choiceOf c clearing) (k / h) (k % h) in
+      fits-i32 (flowRow c day clearing k) (rw (← is) (omega (arith, size)))
+
+  -- in a balanced clearing a net position is what the lines carry away
+  pub flow-row-is : Balanced c day clearing → k < netCount c → flowRow c day clearing k ≡ netRow c day clearing k
+  flow-row-is b l =
+      let least = o .of-clearing .limits .periods-least in
+      sym (b (k / c .periods) (k % c .periods) (row-zone l least) (row-period k least))

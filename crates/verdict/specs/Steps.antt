@@ -1,51 +1,100 @@
--- The verdict from the rules on, and from the room on, as the functions hand on. Assumes nothing.
-use Prim.Native.Nat.{ℕ, _≤_}
+-- The verdict from the rules on, and from the room on, as the functions hand on, and the laws by which they do. Assumes nothing.
+use Prim.Native.Nat.{ℕ, _≤_, _<_}
 use mathlib.Core.Path.{_≡_, refl, sym, ap, subst, _∙_}
+use mathlib.Core.Bool.{true, false}
 use mathlib.Core.List.{List, [], _∷_, _++_}
 use lib.ListN.{length, drop}
-use Rattle.stages.specs.Stage.{Stage, firstFault, answer, orFault, fault-++, Means, means}
+use borrow.Author.Tests.{le-leb, lt-leb}
+use Rattle.stages.specs.Stage.{Stage, place, firstFault, answer, fault-++, Means, means}
 use Rattle.stages.specs.declared.Fault.{Fault}
 use Rattle.stages.specs.declared.Fault.the-variants.{Broken, Clean}
 use Rattle.stages.specs.declared.Place.{Place}
+use Rattle.wire.specs.Bytes.{put}
 use Rattle.market.specs.Rules.{ruleStages, Lawful}
 use Rattle.market.specs.RuleLaws.{lawful-is}
+use Rattle.market.specs.declared.Totals.{Totals}
 use Rattle.day.specs.declared.Counts.{Counts}
 use Rattle.day.specs.Day.{counts}
 use Rattle.day.specs.Good.{in-limits}
 use Rattle.clearing.specs.Clearing.{fileStages, files}
 use Rattle.clearing.specs.Good.{good-files}
-use Rattle.clearing.specs.declared.Files.the-variants.{Good, Bad}
-use Rattle.parts.specs.Of.{OfDay}
+use Rattle.clearing.specs.declared.Files.the-variants.{Good}
 use Rattle.book.specs.Book as book
 use Rattle.book.specs.Of.{OfClearing, OfFiles}
-use Rattle.verdict.specs.Verdict.{dayOf, pricesOf, choiceOf, totalsOf, roomStage, stages, verdict}
+use Rattle.totals.specs.Sums as sums
+use Rattle.rules.specs.Judge as rules
+use Rattle.statement.specs.Statement.{statement, statementLength}
+use Rattle.statement.specs.Laws.{stored-is}
+use Rattle.statement.specs.Of.{netCount, netRow}
+use Rattle.verdict.specs.Verdict.{dayOf, pricesOf, choiceOf, totalsOf, statementOf, statementLengthOf, roomStage, stages, verdict}
 use Rattle.verdict.specs.declared.Outcome.{Outcome}
 use Rattle.verdict.specs.declared.Outcome.the-variants.{Accepted, Refused}
+
+-- ---- the verdict from a stage on
 
 module _ (day clearing : List ℕ) where
   abbrev pub rulesOf : List Stage
   rulesOf = ruleStages (dayOf day) (pricesOf day clearing) (choiceOf day clearing)
 
-  abbrev pub by : Fault → Outcome
-  by = answer (Accepted (totalsOf day clearing)) Refused
+  abbrev pub outcomeOf : List Stage → Outcome
+  outcomeOf ss = answer (Accepted (totalsOf day clearing)) Refused (firstFault ss)
 
   abbrev pub fromRoom : ℕ → Outcome
-  fromRoom room = by (firstFault (roomStage day room ∷ []))
+  fromRoom room = outcomeOf (roomStage day room ∷ [])
 
   abbrev pub fromRules : ℕ → Outcome
-  fromRules room = by (firstFault (rulesOf ++ (roomStage day room ∷ [])))
+  fromRules room = outcomeOf (rulesOf ++ (roomStage day room ∷ []))
 
--- files that read without fault and keep the rules
+  -- where the first stages have a fault, that is the outcome; where they have none, the others decide
+  pub stops : (xs ys : List Stage) {k : ℕ} {p : Place} → Broken k p ≡ firstFault xs → Refused k p ≡ outcomeOf (xs ++ ys)
+  stops xs ys e = rw (fault-++ xs ys, ← e)
+
+  pub goes-on : (xs ys : List Stage) → Clean ≡ firstFault xs → outcomeOf ys ≡ outcomeOf (xs ++ ys)
+  goes-on xs ys e = rw (fault-++ xs ys, ← e)
+
+-- ---- files that read without fault, with their counts in hand, and that keep the rules
+
 pub record Released (day clearing : List ℕ) (c : Counts) : Type 0 where
   pub of-files : OfFiles day clearing c
   pub lawful : Lawful (book.dayOf c day) (book.pricesOf c clearing) (book.choiceOf c clearing)
 
--- ---- the files' counts
-
-pub good-of : (day clearing : List ℕ) (c : Counts) → files day clearing ≡ Good c → OfFiles day clearing c
-good-of day clearing c e =
-    let g = good-files day clearing c e in
+pub good-of : (day clearing : List ℕ) {c : Counts} → Good c ≡ files day clearing → OfFiles day clearing c
+good-of day clearing {c} e =
+    let g = good-files day clearing c (sym e) in
     record {
       of-day = record { good = g .1 .0; counted = g .0 };
       of-clearing = subst (OfClearing clearing) (g .0) (record { cleared = g .1 .1; limits = in-limits (g .1 .0) });
     }
+
+module _ {day clearing : List ℕ} {c : Counts} (o : OfFiles day clearing c) where
+  -- what holds by the file's own counts holds by those in hand
+  in-hand : (P : Counts → Type 0) → P (counts day) → P c
+  in-hand P = subst P (o .of-day .counted)
+
+  pub rules-same : {f : Fault} → f ≡ firstFault (rules.stages c day clearing) → f ≡ firstFault (rulesOf day clearing)
+  rules-same {f} = in-hand (λ (k : Counts). f ≡ firstFault (rules.stages k day clearing) → f ≡ firstFault (rulesOf day clearing)) (λ e. e)
+
+  pub released : Clean ≡ firstFault (rules.stages c day clearing) → Released day clearing c
+  released e = record {
+    of-files = o;
+    lawful = lawful-is (book.dayOf c day) (book.pricesOf c clearing) (book.choiceOf c clearing) .0 (means (rules.stages c day clearing) Clean .0 (sym e));
+  }
+
+  -- the room, and what is left in it
+  pub too-short : (room : ℕ) → room < statementLength (netCount c) → Refused 18 (place 0 0) ≡ fromRoom day clearing room
+  too-short room =
+      in-hand (λ (k : Counts). room < statementLength (netCount k) → Refused 18 (place 0 0) ≡ fromRoom day clearing room)
+      (λ l. rw (lt-leb (statementLengthOf day) room l))
+
+  pub long-enough : (room : ℕ) → statementLength (netCount c) ≤ room → {t : Totals} → t ≡ sums.totals c day clearing → Accepted t ≡ fromRoom day clearing room
+  long-enough room l {t} e =
+      in-hand (λ (k : Counts). statementLength (netCount k) ≤ room → t ≡ sums.totals k day clearing → Accepted t ≡ fromRoom day clearing room)
+      (λ l e. rw (le-leb (statementLengthOf day) room l) (ap Accepted e)) l e
+
+  pub left-in : (room : List ℕ) {t : Totals} → t ≡ sums.totals c day clearing →
+      put room 0 (statement t (netRow c day clearing) (netCount c)) ≡ statementOf day clearing ++ drop (statementLengthOf day) room
+  left-in room {t} e =
+      ap (λ (u : Totals). put room 0 (statement u (netRow c day clearing) (netCount c))) e
+      ∙ in-hand (λ (k : Counts). put room 0 (statement (sums.totals k day clearing) (netRow k day clearing) (netCount k))
+          ≡ statementOf day clearing ++ drop (statementLengthOf day) room)
+      (stored-is (totalsOf day clearing) (netRow (counts day) day clearing) (netCount (counts day)) room)
