@@ -46,11 +46,24 @@ module _ (day clearing : List ℕ) where
   fromRules room = outcomeOf (rulesOf ++ (roomStage day room ∷ []))
 
   -- where the first stages have a fault, that is the outcome; where they have none, the others decide
-  pub stops : (xs ys : List Stage) {k : ℕ} {p : Place} → Broken k p ≡ firstFault xs → Refused k p ≡ outcomeOf (xs ++ ys)
+  stops : (xs ys : List Stage) {k : ℕ} {p : Place} → Broken k p ≡ firstFault xs → Refused k p ≡ outcomeOf (xs ++ ys)
   stops xs ys e = rw (fault-++ xs ys, ← e)
 
-  pub goes-on : (xs ys : List Stage) → Clean ≡ firstFault xs → outcomeOf ys ≡ outcomeOf (xs ++ ys)
+  goes-on : (xs ys : List Stage) → Clean ≡ firstFault xs → outcomeOf ys ≡ outcomeOf (xs ++ ys)
   goes-on xs ys e = rw (fault-++ xs ys, ← e)
+
+  module _ (room : ℕ) where
+    pub at-the-files : {k : ℕ} {p : Place} → Broken k p ≡ firstFault (fileStages day clearing) → Refused k p ≡ verdict day clearing room
+    at-the-files = stops (fileStages day clearing) (rulesOf ++ (roomStage day room ∷ []))
+
+    pub past-the-files : Clean ≡ firstFault (fileStages day clearing) → fromRules room ≡ verdict day clearing room
+    past-the-files = goes-on (fileStages day clearing) (rulesOf ++ (roomStage day room ∷ []))
+
+    pub at-the-rules : {k : ℕ} {p : Place} → Broken k p ≡ firstFault rulesOf → Refused k p ≡ fromRules room
+    at-the-rules = stops rulesOf (roomStage day room ∷ [])
+
+    pub past-the-rules : Clean ≡ firstFault rulesOf → fromRoom room ≡ fromRules room
+    past-the-rules = goes-on rulesOf (roomStage day room ∷ [])
 
 -- ---- files that read without fault, with their counts in hand, and that keep the rules
 

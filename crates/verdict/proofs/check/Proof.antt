@@ -1,38 +1,43 @@
+-- `verdict::check` meets its contract. Assumes nothing.
+use mathlib.Core.Path.{refl, sym, ap, _∙_}
+use lib.ListN.{length}
+use denote.Ref.{now}
+use Rattle.clearing.specs.Clearing.{faultOf}
+use Rattle.verdict.specs.Steps.{at-the-files, past-the-files, good-of}
 use borrow.Author.Needs.{needs}
 use Rattle.verdict.proofs.check.Statement.{statement}
 use Rattle.verdict.proofs.check.Tie as tie
-use Rattle.verdict.proofs.check.Reads as reads
-use Rattle.verdict.proofs.check.Lts as lts
-use Rattle.clearing.proofs.read_files.Reads as read-files-reads
-use Rattle.verdict.proofs.from_rules.Reads as from-rules-reads
 
--- src/lib.rt:56:11
 read-files-requires : tie.Need-read-files-requires
 read-files-requires c κs = search needs
 
--- src/lib.rt:57:20
 enum-known-number : tie.Need-enum-known-number
 enum-known-number c = search needs
 
--- src/lib.rt:58:21
 enum-known-counts : tie.Need-enum-known-counts
 enum-known-counts c = search needs
 
--- src/lib.rt:58:32
 from-rules-requires : tie.Need-from-rules-requires
-from-rules-requires c κs = ?
+from-rules-requires c κs =
+    let told = c .before .before in
+    good-of _ _ (sym (told .counts .given .1) ∙ told .before .before .read-files .ensures .0)
 
--- src/lib.rt:52:1
 returns : tie.Need-returns
-returns c = ?
+returns c =
+    let s = c .before .before .before .before .before .before .before in
+    (at-the-files (now (s .args .day)) (now (s .args .clearing)) (length (now (s .args .room)))
+    (ap faultOf (sym (c .before .number .given .1)) ∙ c .before .before .before .read-files .ensures .1), refl)
 
--- src/lib.rt:52:1
 same-length : tie.Need-same-length
 same-length c = search needs
 
--- src/lib.rt:52:1
 returns-2 : tie.Need-returns-2
-returns-2 c = ?
+returns-2 c =
+    let told = c .before .before .before .before .before in
+    let rules = c .before .before .from-rules .ensures in
+    let s = c .before .before .before .before .before .before .before .before .before .before .before in
+    (rules .0 ∙ past-the-files (now (s .args .day)) (now (s .args .clearing)) (length (now (s .args .room)))
+    (ap faultOf (sym (told .counts .given .1)) ∙ told .before .before .read-files .ensures .1), rules .1)
 
 pub check-spec : {M : Type 1} → statement M
 check-spec =

@@ -1,38 +1,43 @@
+-- `verdict::from_rules` meets its contract. Assumes nothing.
+use mathlib.Core.Path.{refl, sym, _∙_}
+use lib.ListN.{length}
+use denote.Ref.{now}
+use Rattle.verdict.specs.Steps.{at-the-rules, past-the-rules, rules-same, released}
 use borrow.Author.Needs.{needs}
 use Rattle.verdict.proofs.from_rules.Statement.{statement}
 use Rattle.verdict.proofs.from_rules.Tie as tie
-use Rattle.verdict.proofs.from_rules.Reads as reads
-use Rattle.verdict.proofs.from_rules.Lts as lts
-use Rattle.rules.proofs.first_fault.Reads as first-fault-reads
-use Rattle.verdict.proofs.from_room.Reads as from-room-reads
 
--- src/lib.rt:45:11
 first-fault-requires : tie.Need-first-fault-requires
 first-fault-requires c κs = search needs
 
--- src/lib.rt:46:23
 enum-known-number : tie.Need-enum-known-number
 enum-known-number c = search needs
 
--- src/lib.rt:47:58
 enum-told : tie.Need-enum-told
 enum-told c = search needs
 
--- src/lib.rt:47:25
 from-room-requires : tie.Need-from-room-requires
-from-room-requires c κs = ?
+from-room-requires c κs =
+    let told = c .before in
+    let s = c .before .before .before .before .before .before .before in
+    released (s .pre) (sym (told .enum-told .given .1) ∙ told .before .before .first-fault .ensures)
 
--- src/lib.rt:40:1
 returns : tie.Need-returns
-returns c = ?
+returns c =
+    let s = c .before .before .before .before .before .before .before in
+    (at-the-rules (now (s .args .day)) (now (s .args .clearing)) (length (now (s .args .room)))
+    (rules-same (s .pre) (sym (c .before .number .given .1) ∙ c .before .before .before .first-fault .ensures)), refl)
 
--- src/lib.rt:40:1
 same-length : tie.Need-same-length
 same-length c = search needs
 
--- src/lib.rt:40:1
 returns-2 : tie.Need-returns-2
-returns-2 c = ?
+returns-2 c =
+    let told = c .before .before .before .before in
+    let s = c .before .before .before .before .before .before .before .before .before .before in
+    let room = c .before .before .from-room .ensures in
+    (room .0 ∙ past-the-rules (now (s .args .day)) (now (s .args .clearing)) (length (now (s .args .room)))
+    (rules-same (s .pre) (sym (told .enum-told .given .1) ∙ told .before .before .first-fault .ensures)), room .1)
 
 pub from-rules-spec : {M : Type 1} → statement M
 from-rules-spec =
