@@ -2,9 +2,8 @@
 use Prim.Native.Nat.{ℕ}
 use mathlib.Core.Path.{_≡_, refl}
 use mathlib.Core.List.{List, [], _∷_}
-use lib.IntN.{ℤ, pos, negℤ}
+use lib.IntN.{pos, negℤ}
 use Rattle.stages.specs.Stage.{place}
-use Rattle.market.specs.declared.Totals.{Totals}
 use Rattle.whole.specs.Whole.{sum, at, above-zero}
 use Rattle.rows.specs.Rows.{rowOk}
 use Rattle.market.specs.Market.{wholeSurplus, rent, shortfall, totals}

@@ -1,56 +1,122 @@
 -- The demands on the checker, as theorems about `check(day, clearing, room)`. Each is about any three byte strings; none assumes anything
--- but what the contract of `check` says, which is the record `Checked`. That `check` has no `requires` and always ends is what the gate
--- shows of its code.
-use Prim.Native.Nat.{ℕ, _+_, _*_, _<_, _≤_}
-use mathlib.Core.Path.{_≡_, refl, sym, ap, subst, _∙_}
-use mathlib.Core.Logic.{_↔_}
-use mathlib.Core.List.{List, [], _∷_, _++_}
+-- but what the contract of `check` says, which is the record `Checked` (crate verdict, specs/Verdict). That `check` has no `requires`
+-- and always ends is what the gate shows of its code.
+use Prim.Native.Nat.{ℕ, _≤_}
+use native.Mathlib.Omega.{arith}
+use mathlib.Core.Path.{_≡_, sym, ap, subst, _∙_}
+use mathlib.Core.Logic.{_↔_, _⊎_}
+use mathlib.Core.List.{List, _++_}
+use lib.IntN.{pos}
 use lib.ListN.{length, drop}
 use Rattle.whole.specs.Whole.{_≼_}
-use Rattle.stages.specs.Stage.{Means, answer-good, answer-bad}
+use Rattle.stages.specs.Stage.{Means, place}
 use Rattle.stages.specs.declared.Place.{Place}
-use Rattle.stages.specs.declared.Fault.{Fault}
-use Rattle.stages.specs.declared.Fault.the-variants.{Broken, Clean}
-use Rattle.market.specs.Rules.{Lawful}
+use Rattle.stages.specs.declared.Fault.the-variants.{Broken}
+use Rattle.market.specs.Market.{totals}
+use Rattle.market.specs.Rules.{number}
+use Rattle.market.specs.RuleLaws.{rent-nonneg, shortfall-nonneg}
+use Rattle.market.specs.declared.Rule.{Rule}
 use Rattle.market.specs.declared.Totals.{Totals}
 use Rattle.day.specs.Day.{counts}
-use Rattle.day.specs.Good.{GoodDay}
-use Rattle.clearing.specs.Good.{GoodClearing}
-use Rattle.verdict.specs.Verdict.{dayOf, pricesOf, choiceOf, totalsOf, statementOf, statementLengthOf, stages, verdict, leaves, givenTotals, zeros}
+use Rattle.day.specs.Good.{GoodDay, in-limits, prices-most}
+use Rattle.book.specs.Of.{OfFiles}
+use Rattle.book.specs.Ranges.{placed}
+use Rattle.verdict.specs.Verdict.{totalsOf, statementOf, statementLengthOf}
+use Rattle.verdict.specs.Verdict.{stages, leaves, Checked, numberOf, givenTotals, zeros}
 use Rattle.verdict.specs.declared.Outcome.{Outcome}
 use Rattle.verdict.specs.declared.Outcome.the-variants.{Accepted, Refused}
+use Rattle.demands.specs.Sentences.{Passes, FirstBreach, TooShort, Stated}
+use Rattle.demands.specs.Refusals as refusals
+use Rattle.demands.specs.Laws.{passes-exactly, refused-is-broken, of-files, behind-stays, length-stays}
+use Rattle.demands.specs.Laws.{six-stated, value-stated, buyers-stated, sellers-stated, rent-stated, traded-stated, shortfall-stated}
+use Rattle.demands.specs.Laws.{count-stated, net-stated}
 
--- a call of `check`: the two files, the room before it, its outcome, the room after it
-pub record Checked (day clearing before : List ℕ) (outcome : Outcome) (after : List ℕ) : Type 0 where
-  pub said : outcome ≡ verdict day clearing (length before)
-  pub left : after ≡ leaves day clearing outcome before
-
--- ==== Demand 1. Any two files. A refusal has a number and a place, gives zero totals and changes no byte of the room.
+-- what is shown of the verdict is shown of the outcome
+said-of : {x y z : Outcome} {A : Type 0} → x ≡ y → (y ≡ z) ↔ A → (x ≡ z) ↔ A
+said-of e h = (λ f. h .0 (sym e ∙ f), λ a. e ∙ h .1 a)
 
 module _ {day clearing before : List ℕ} {outcome : Outcome} {after : List ℕ} (c : Checked day clearing before outcome after) where
+
+  -- ==== Demand 1. Any two files. A refusal has a number and a place, gives zero totals and changes no byte of the room.
+
   pub refusal-changes-nothing : {k : ℕ} {p : Place} → outcome ≡ Refused k p → after ≡ before
   refusal-changes-nothing e = c .left ∙ ap (λ (o : Outcome). leaves day clearing o before) e
 
   pub refusal-gives-zeros : {k : ℕ} {p : Place} → outcome ≡ Refused k p → givenTotals outcome ≡ zeros
   refusal-gives-zeros e = ap givenTotals e
 
+  -- its number is from 1 to 8, for the files, or from 11 to 18, for the rules and the room; the number 0 is given just for an acceptance
+  pub refusal-number : (k : ℕ) (p : Place) → outcome ≡ Refused k p → ((1 ≤ k) × (k ≤ 8)) ⊎ ((11 ≤ k) × (k ≤ 18))
+  refusal-number k p e = refusals.refusal-number day clearing (length before) k p (sym (c .said) ∙ e)
+
+  pub zero-is-accepted : numberOf outcome ≡ 0 → outcome ≡ Accepted (totalsOf day clearing)
+  zero-is-accepted e = c .said ∙ refusals.zero-is-accepted day clearing (length before) (ap numberOf (sym (c .said)) ∙ e)
+
+  -- ==== Demand 2. Accepted exactly when every rule of the rule paper holds and the room is long enough; else the first broken rule at
+  -- its first place. Totals and net positions are the defined ones.
+
+  pub accepted-exactly : (t : Totals) → (outcome ≡ Accepted t) ↔ (Passes day clearing (length before) × (totalsOf day clearing ≡ t))
+  accepted-exactly t = said-of (c .said) (passes-exactly day clearing (length before) t)
+
+  -- `Means .. (Broken k p)`: some stage has the number k and fails first at the place p, and all stages before it hold everywhere
+  pub refused-exactly : (k : ℕ) (p : Place) → (outcome ≡ Refused k p) ↔ Means (stages day clearing (length before)) (Broken k p)
+  refused-exactly k p = said-of (c .said) (refused-is-broken day clearing (length before) k p)
+
+  -- the same as sentences. By a rule: the files read, the rules with a lower number hold, this one is broken at this place and nowhere before
+  pub refused-by-rule : (rule : Rule) (row col : ℕ) →
+      (outcome ≡ Refused (number rule) (place row col)) ↔ FirstBreach day clearing rule row col
+  refused-by-rule rule row col = said-of (c .said) (refusals.refused-by-rule day clearing (length before) rule row col)
+
+  -- by the room: the files read, every rule holds, and the room is shorter than the statement
+  pub refused-by-room : (outcome ≡ Refused 18 (place 0 0)) ↔ TooShort day clearing (length before)
+  refused-by-room = said-of (c .said) (refusals.refused-by-room day clearing (length before))
+
   -- an acceptance writes the statement at the front and leaves the bytes behind it
   pub acceptance-writes : {t : Totals} → outcome ≡ Accepted t → after ≡ statementOf day clearing ++ drop (statementLengthOf day) before
   acceptance-writes e = c .left ∙ ap (λ (o : Outcome). leaves day clearing o before) e
 
--- ==== Demand 2. Accepted exactly when every rule of the rule paper holds and the room is long enough; else the first broken rule at its
--- first place. Totals and net positions are the defined ones.
+  module _ {t : Totals} (accepts : outcome ≡ Accepted t) where
+    -- what it tells of the two files
+    passed : Passes day clearing (length before) × (totalsOf day clearing ≡ t)
+    passed = accepted-exactly t .0 accepts
 
--- both files read without fault, every rule holds, and the room has at least the statement's length
-pub record Passes (day clearing : List ℕ) (room : ℕ) : Type 0 where
-  pub day-reads : GoodDay day
-  pub clearing-reads : GoodClearing (counts day) clearing
-  pub rules-hold : Lawful (dayOf day) (pricesOf day clearing) (choiceOf day clearing)
-  pub room-suffices : statementLengthOf day ≤ room
+    both-read : OfFiles day clearing (counts day)
+    both-read = of-files (passed .0 .day-reads) (passed .0 .clearing-reads)
 
-module _ (day clearing : List ℕ) (room : ℕ) where
-  pub accepted-exactly : (t : Totals) → (verdict day clearing room ≡ Accepted t) ↔ (Passes day clearing room × (totalsOf day clearing ≡ t))
-  accepted-exactly t = ?
+    pub stated : Stated day clearing before t after
+    stated =
+        let rest = drop (statementLengthOf day) before in
+        subst (Stated day clearing before t) (sym (acceptance-writes accepts)) (record {
+          totals-are = sym (passed .1);
+          six = six-stated both-read rest;
+          value-at = value-stated both-read rest;
+          buyers-at = buyers-stated both-read rest;
+          sellers-at = sellers-stated both-read rest;
+          rent-at = rent-stated both-read rest;
+          traded-at = traded-stated both-read rest;
+          shortfall-at = shortfall-stated both-read rest;
+          count-at = count-stated both-read rest;
+          net-at = net-stated both-read rest (passed .0 .rules-hold);
+          behind = behind-stays day clearing before (passed .0 .room-suffices);
+          same-length = length-stays day clearing before (passed .0 .room-suffices);
+        })
 
-  pub refused-exactly : (k : ℕ) (p : Place) → (verdict day clearing room ≡ Refused k p) ↔ Means (stages day clearing room) (Broken k p)
-  refused-exactly k p = ?
+    -- the rent and the shortfall are never below zero
+    pub rent-least : pos 0 ≼ t .rent
+    unfolding totals
+    rent-least = subst (λ (u : Totals). pos 0 ≼ u .rent) (passed .1) (rent-nonneg _ _ _ (placed (both-read .of-day)) (passed .0 .rules-hold))
+
+    pub shortfall-least : pos 0 ≼ t .shortfall
+    unfolding totals
+    shortfall-least = subst (λ (u : Totals). pos 0 ≼ u .shortfall) (passed .1) (shortfall-nonneg _ _ _)
+
+-- the longest statement
+pub longest-statement : {day : List ℕ} → GoodDay day → statementLengthOf day ≤ 852
+longest-statement g = omega (arith, prices-most (in-limits g))
+
+-- two calls with the same files and the same room have the same outcome and leave the same room
+pub one-outcome : {day clearing before : List ℕ} {o o′ : Outcome} {a a′ : List ℕ} →
+    Checked day clearing before o a → Checked day clearing before o′ a′ → (o ≡ o′) × (a ≡ a′)
+one-outcome {day} {clearing} {before} c d =
+    let e = c .said ∙ sym (d .said) in
+    (e, c .left ∙ ap (λ (o : Outcome). leaves day clearing o before) e ∙ sym (d .left))

@@ -1,7 +1,7 @@
 -- The statement: six totals (count 6, i64 each: order value, buyer surplus, seller surplus, rent, traded volume, shortfall), then the net
 -- positions (count Z times H, i32, ordered like prices). Assumes nothing.
 use Prim.Native.Nat.{ℕ, zero, suc, _+_, _*_}
-use mathlib.Core.List.{List, [], _∷_, _++_}
+use mathlib.Core.List.{List, [], _++_}
 use lib.IntN.{ℤ}
 use Rattle.wire.specs.Bytes.{bits32, bits64, bytes16, bytes32, bytes64}
 use Rattle.market.specs.declared.Totals.{Totals}

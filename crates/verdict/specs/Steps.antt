@@ -1,11 +1,10 @@
 -- The verdict from the rules on, and from the room on, as the functions hand on, and the laws by which they do. Assumes nothing.
 use Prim.Native.Nat.{ℕ, _≤_, _<_}
-use mathlib.Core.Path.{_≡_, refl, sym, ap, subst, _∙_}
-use mathlib.Core.Bool.{true, false}
+use mathlib.Core.Path.{_≡_, sym, ap, subst, _∙_}
 use mathlib.Core.List.{List, [], _∷_, _++_}
-use lib.ListN.{length, drop}
+use lib.ListN.{drop}
 use borrow.Author.Tests.{le-leb, lt-leb}
-use Rattle.stages.specs.Stage.{Stage, place, firstFault, answer, fault-++, Means, means}
+use Rattle.stages.specs.Stage.{Stage, place, firstFault, answer, fault-++, means}
 use Rattle.stages.specs.declared.Fault.{Fault}
 use Rattle.stages.specs.declared.Fault.the-variants.{Broken, Clean}
 use Rattle.stages.specs.declared.Place.{Place}
@@ -109,5 +108,5 @@ module _ {day clearing : List ℕ} {c : Counts} (o : OfFiles day clearing c) whe
   left-in room {t} e =
       ap (λ (u : Totals). put room 0 (statement u (netRow c day clearing) (netCount c))) e
       ∙ in-hand (λ (k : Counts). put room 0 (statement (sums.totals k day clearing) (netRow k day clearing) (netCount k))
-          ≡ statementOf day clearing ++ drop (statementLengthOf day) room)
+      ≡ statementOf day clearing ++ drop (statementLengthOf day) room)
       (stored-is (totalsOf day clearing) (netRow (counts day) day clearing) (netCount (counts day)) room)

@@ -1,9 +1,10 @@
 -- The verdict on a day file and a clearing file, what it leaves in the lent room, and what each of its cases gives. Assumes nothing.
 use Prim.Native.Nat.{ℕ}
+use mathlib.Core.Path.{_≡_}
 use mathlib.Core.List.{List, [], _∷_, _++_}
 use lib.Dec.{leb}
 use lib.IntN.{pos}
-use lib.ListN.{drop}
+use lib.ListN.{length, drop}
 use Rattle.stages.specs.Stage.{Stage, once, place, firstFault, answer}
 use Rattle.stages.specs.declared.Place.{Place}
 use Rattle.market.specs.Market.{Day, Choice, Prices, totals}
@@ -60,6 +61,11 @@ verdict day clearing room = answer (Accepted (totalsOf day clearing)) Refused (f
 abbrev pub leaves : List ℕ → List ℕ → Outcome → List ℕ → List ℕ
 leaves day clearing (Accepted t) room = statementOf day clearing ++ drop (statementLengthOf day) room
 leaves day clearing (Refused number place) room = room
+
+-- a call of `check`: the two files, the room before it, its outcome, the room after it
+pub record Checked (day clearing before : List ℕ) (outcome : Outcome) (after : List ℕ) : Type 0 where
+  pub said : outcome ≡ verdict day clearing (length before)
+  pub left : after ≡ leaves day clearing outcome before
 
 -- ---- what each case gives: the paper's number, its place, its totals
 

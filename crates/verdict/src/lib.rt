@@ -8,7 +8,7 @@ use stages::Place;
 ghost use mathlib.Core.Path.{_≡_};
 ghost use lib.ListN.{length};
 ghost use Rattle.book.specs.Of.{OfFiles};
-ghost use Rattle.verdict.specs.Verdict.{verdict, leaves, givenTotals};
+ghost use Rattle.verdict.specs.Verdict.{Checked, leaves, givenTotals};
 ghost use Rattle.verdict.specs.Steps.{fromRules, fromRoom, Released};
 
 pub enum Outcome {
@@ -50,8 +50,7 @@ fn from_rules(day: &[u8], clearing: &[u8], counts: Counts, room: &mut [u8]) -> O
 
 // Judges any two byte strings.
 pub fn check(day: &[u8], clearing: &[u8], room: &mut [u8]) -> Outcome
-    ensures said { λ r. ⌜ r ≡ verdict (now (day .entry)) (now (clearing .entry)) (length (now (room .entry))) ⌝ }
-    ensures left { λ r. ⌜ now (room .exit) ≡ leaves (now (day .entry)) (now (clearing .entry)) r (now (room .entry)) ⌝ }
+    ensures { λ r. ⌜ Checked (now (day .entry)) (now (clearing .entry)) (now (room .entry)) r (now (room .exit)) ⌝ }
 {
     match clearing::read_files(day, clearing) {
         Files::Bad(number, place) => Outcome::Refused(number, place),

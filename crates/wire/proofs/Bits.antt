@@ -18,11 +18,12 @@ pub record Cast (w : Width) (z : ℤ) : Type 0 where
   pub gives : natAbs (toZ w (ofZ w z)) ≡ ofZ w z
   pub half : ofZ w z < 2 ^ hbits w
 
--- d may be made and cast, and its bits and those of v make all ones
+-- d may be made and cast, its bits and those of v make all ones, and it is one less than v is large
 pub record Complement (w : Width) (v d : ℤ) : Type 0 where
   pub fits : SFits w d
   pub cast : Cast w d
   pub ones : suc (ofZ w d + ofZ w v) ≡ 2 ^ bits w
+  pub size : natAbs (toZ w (ofZ w d)) + 1 ≡ natAbs v
 
 -- -1 - v, of v as it is held
 abbrev pub rest : Width → ℤ → ℤ
@@ -41,4 +42,9 @@ below-zero {w} {v = pos n} f e = absurd (omega (arith, ltb-true n 0 (rw (toZ-ofZ
 below-zero {w} {v = negsuc n} f e =
     let d : negsuc 0 -ℤ negsuc n ≡ pos n = rw (le-ltb (suc n) 1 (omega arith)) (ap pos (omega arith)) in
     rw (toZ-ofZ w (negsuc n) f, d)
-    (record { fits = record { sfits = f .sfits }; cast = cast-pos w n (f .sfits); ones = omega (arith, half-full w (f .sfits)) })
+    (record {
+      fits = record { sfits = f .sfits };
+      cast = cast-pos w n (f .sfits);
+      ones = omega (arith, half-full w (f .sfits));
+      size = rw (toZ-pos w n (f .sfits)) (omega arith);
+    })

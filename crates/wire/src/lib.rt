@@ -1,6 +1,7 @@
 // Numbers in a lent slice of bytes, lowest byte first: read and written.
 ghost use mathlib.Core.Path.{_≡_};
 ghost use Prim.Native.Nat.{_+_, _≤_, _<_};
+ghost use lib.IntN.{natAbs};
 ghost use lib.ListN.{length};
 ghost use Rattle.wire.specs.Bytes.{u8At, u16At, u32At, i32At, signed32, bits32, bits64, bytes16, bytes32, bytes64, put};
 
@@ -131,4 +132,13 @@ pub fn put_i64(room: &mut [u8], at: usize, v: i64)
     ensures { λ r. ⌜ now (room .exit) ≡ put (now (room .entry)) at (bytes64 (bits64 v)) ⌝ }
 {
     put_u64(room, at, bits_of_i64(v));
+}
+
+// ---- how large
+
+// A signed number's distance from zero.
+pub fn size(v: i64) -> u64
+    ensures { λ r. ⌜ r ≡ natAbs v ⌝ }
+{
+    if v < 0 { (-1 - v) as u64 + 1 } else { v as u64 }
 }

@@ -1,7 +1,6 @@
 -- `market::step_ok` meets its contract. Assumes nothing.
 use mir.Syntax.{w64}
 use mir.ValLaws.{toZ-ofZ}
-use mathlib.Core.Path.{_∙_}
 use borrow.Author.Needs.{needs}
 use Rattle.market.proofs.step_ok.Statement.{statement}
 use Rattle.market.proofs.step_ok.Tie as tie

@@ -67,14 +67,13 @@ loop-again : tie.Need-loop-again Inv-loop μ-loop
 loop-again c =
     let s = c .before .before .before .before .before .before .before .before .before .before .before in
     let loop = c .before .before .before .before .before .before .loop in
-    let flow = c .before .before .before .net-flow in
-    (
+    let flow = c .before .before .before .net-flow in (
       omega arith,
       (
         omega arith,
         c .before .before .put-net .ensures
-        ∙ rw (same (flow .result) (flow .ok), flow .ensures, loop .inv .1 .1)
-        (net-more (now (s .args .room)) (flowRow (s .args .counts) (now (s .args .day)) (now (s .args .clearing))) (loop .k) (omega arith)),
+            ∙ rw (same (flow .result) (flow .ok), flow .ensures, loop .inv .1 .1)
+            (net-more (now (s .args .room)) (flowRow (s .args .counts) (now (s .args .day)) (now (s .args .clearing))) (loop .k) (omega arith)),
       ),
     )
 

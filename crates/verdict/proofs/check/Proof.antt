@@ -25,8 +25,8 @@ from-rules-requires c κs =
 returns : tie.Need-returns
 returns c =
     let s = c .before .before .before .before .before .before .before in
-    (at-the-files (now (s .args .day)) (now (s .args .clearing)) (length (now (s .args .room)))
-    (ap faultOf (sym (c .before .number .given .1)) ∙ c .before .before .before .read-files .ensures .1), refl)
+    let fault = ap faultOf (sym (c .before .number .given .1)) ∙ c .before .before .before .read-files .ensures .1 in
+    record { said = at-the-files (now (s .args .day)) (now (s .args .clearing)) (length (now (s .args .room))) fault; left = refl }
 
 same-length : tie.Need-same-length
 same-length c = search needs
@@ -34,10 +34,10 @@ same-length c = search needs
 returns-2 : tie.Need-returns-2
 returns-2 c =
     let told = c .before .before .before .before .before in
+    let s = told .before .before .before .before .before .before in
+    let clean = ap faultOf (sym (told .counts .given .1)) ∙ told .before .before .read-files .ensures .1 in
     let rules = c .before .before .from-rules .ensures in
-    let s = c .before .before .before .before .before .before .before .before .before .before .before in
-    (rules .0 ∙ past-the-files (now (s .args .day)) (now (s .args .clearing)) (length (now (s .args .room)))
-    (ap faultOf (sym (told .counts .given .1)) ∙ told .before .before .read-files .ensures .1), rules .1)
+    record { said = rules .0 ∙ past-the-files (now (s .args .day)) (now (s .args .clearing)) (length (now (s .args .room))) clean; left = rules .1 }
 
 pub check-spec : {M : Type 1} → statement M
 check-spec =

@@ -24,9 +24,11 @@ from-room-requires c κs =
 
 returns : tie.Need-returns
 returns c =
-    let s = c .before .before .before .before .before .before .before in
-    (at-the-rules (now (s .args .day)) (now (s .args .clearing)) (length (now (s .args .room)))
-    (rules-same (s .pre) (sym (c .before .number .given .1) ∙ c .before .before .before .first-fault .ensures)), refl)
+    let s = c .before .before .before .before .before .before .before in (
+      at-the-rules (now (s .args .day)) (now (s .args .clearing)) (length (now (s .args .room)))
+          (rules-same (s .pre) (sym (c .before .number .given .1) ∙ c .before .before .before .first-fault .ensures)),
+      refl,
+    )
 
 same-length : tie.Need-same-length
 same-length c = search needs
@@ -35,9 +37,11 @@ returns-2 : tie.Need-returns-2
 returns-2 c =
     let told = c .before .before .before .before in
     let s = c .before .before .before .before .before .before .before .before .before .before in
-    let room = c .before .before .from-room .ensures in
-    (room .0 ∙ past-the-rules (now (s .args .day)) (now (s .args .clearing)) (length (now (s .args .room)))
-    (rules-same (s .pre) (sym (told .enum-told .given .1) ∙ told .before .before .first-fault .ensures)), room .1)
+    let room = c .before .before .from-room .ensures in (
+      room .0 ∙ past-the-rules (now (s .args .day)) (now (s .args .clearing)) (length (now (s .args .room)))
+          (rules-same (s .pre) (sym (told .enum-told .given .1) ∙ told .before .before .first-fault .ensures)),
+      room .1,
+    )
 
 pub from-rules-spec : {M : Type 1} → statement M
 from-rules-spec =

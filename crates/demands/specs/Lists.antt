@@ -1,0 +1,118 @@
+-- Laws of lists of stages: which numbers a list refuses with, one list after another, and lists whose numbers ascend. Assumes nothing.
+use Prim.Native.Nat.{ℕ, suc, _<_, _≤_}
+use native.Mathlib.Omega.{arith}
+use mathlib.Core.Path.{_≡_, subst}
+use mathlib.Core.Logic.{_↔_, _⊎_, inl, inr, ⊎-elim}
+use mathlib.Core.List.{List, [], _∷_, _++_}
+use Rattle.stages.specs.Stage.{Stage, Holds, BrokenAt, Means}
+use Rattle.stages.specs.declared.Place.{Place}
+use Rattle.stages.specs.declared.Fault.the-variants.{Broken, Clean}
+
+-- ---- what is meant
+
+-- each stage of a list has a property
+abbrev pub Each : (Stage → Type 0) → List Stage → Type 0
+Each P [] = Unit
+Each P (s ∷ ss) = P s × Each P ss
+
+-- each stage's number has
+abbrev pub Numbers : (ℕ → Type 0) → List Stage → Type 0
+Numbers P = Each (λ (s : Stage). P (s .number))
+
+-- a stage is one of a list
+abbrev pub In : Stage → List Stage → Type 0
+In s [] = ⊥
+In s (t ∷ ss) = (t ≡ s) ⊎ In s ss
+
+-- the numbers are at least k, and each is above the one before it
+abbrev pub Ascending : ℕ → List Stage → Type 0
+Ascending k [] = Unit
+Ascending k (s ∷ ss) = (k ≤ s .number) × Ascending (suc (s .number)) ss
+
+-- ---- a fault of two lists is one of the first, or the first is clean and it is one of the second
+
+-- the same of the first stage's own fault A, that it holds H, and the faults behind it
+behind : {A H M B C D : Type 0} → M ↔ (B ⊎ (C × D)) → (A ⊎ (H × M)) ↔ ((A ⊎ (H × B)) ⊎ ((H × C) × D))
+behind {A} {H} {M} {B} {C} {D} r = (apart, together)
+  where
+    split : H → B ⊎ (C × D) → (A ⊎ (H × B)) ⊎ ((H × C) × D)
+    split h (inl b) = inl (inr (h, b))
+    split h (inr d) = inr ((h, d .0), d .1)
+
+    apart : A ⊎ (H × M) → (A ⊎ (H × B)) ⊎ ((H × C) × D)
+    apart (inl a) = inl (inl a)
+    apart (inr m) = split (m .0) (r .0 (m .1))
+
+    together : (A ⊎ (H × B)) ⊎ ((H × C) × D) → A ⊎ (H × M)
+    together (inl (inl a)) = inl a
+    together (inl (inr b)) = inr (b .0, r .1 (inl (b .1)))
+    together (inr d) = inr (d .0 .0, r .1 (inr (d .0 .1, d .1)))
+
+pub broken-++ : (xs ys : List Stage) (k : ℕ) (p : Place) →
+    Means (xs ++ ys) (Broken k p) ↔ (Means xs (Broken k p) ⊎ (Means xs Clean × Means ys (Broken k p)))
+broken-++ [] ys k p = (λ m. inr (tt, m), λ m. ⊎-elim (λ b. absurd b) (λ d. d .1) m)
+broken-++ (s ∷ xs) ys k p = behind (broken-++ xs ys k p)
+
+-- ---- each stage of a list
+
+pub each-in : (P : Stage → Type 0) (ss : List Stage) {s : Stage} → Each P ss → In s ss → P s
+each-in P [] h i = absurd i
+each-in P (t ∷ ss) h (inl e) = subst P e (h .0)
+each-in P (t ∷ ss) h (inr i) = each-in P ss (h .1) i
+
+each-so : (P Q : Stage → Type 0) (ss : List Stage) → ((s : Stage) → P s → Q s) → Each P ss → Each Q ss
+each-so P Q [] f h = tt
+each-so P Q (s ∷ ss) f h = (f s (h .0), each-so P Q ss f (h .1))
+
+-- ---- a list refuses with the number of one of its stages
+
+pub numbered : (P : ℕ → Type 0) (ss : List Stage) → Numbers P ss → (k : ℕ) (p : Place) → Means ss (Broken k p) → P k
+numbered P [] h k p m = absurd m
+numbered P (s ∷ ss) h k p (inl b) = subst P (b .number) (h .0)
+numbered P (s ∷ ss) h k p (inr m) = numbered P ss (h .1) k p (m .1)
+
+pub numbers-++ : (P : ℕ → Type 0) (xs ys : List Stage) → Numbers P xs → Numbers P ys → Numbers P (xs ++ ys)
+numbers-++ P [] ys g h = h
+numbers-++ P (s ∷ xs) ys g h = (g .0, numbers-++ P xs ys (g .1) h)
+
+-- ---- numbers that ascend
+
+ascending-from : (k : ℕ) (ss : List Stage) → Ascending k ss → Numbers (λ (n : ℕ). k ≤ n) ss
+ascending-from k [] a = tt
+ascending-from k (s ∷ ss) a = (a .0, each-so _ _ ss (λ t h. omega (arith, a .0, h)) (ascending-from (suc (s .number)) ss (a .1)))
+
+-- the stages with a lower number hold
+abbrev pub LowerHold : Stage → List Stage → Type 0
+LowerHold s = Each (λ (t : Stage). t .number < s .number → Holds t)
+
+module _ (k : ℕ) (s : Stage) (ss : List Stage) (a : Ascending k (s ∷ ss)) where
+  above : Numbers (λ (n : ℕ). s .number < n) ss
+  above = ascending-from (suc (s .number)) ss (a .1)
+
+  -- a refusal with the first stage's number is its own, and no stage has a lower number
+  first-broken : (p : Place) → Means (s ∷ ss) (Broken (s .number) p) ↔ (BrokenAt s (s .number) p × LowerHold s (s ∷ ss))
+  first-broken p = (to, λ m. inl (m .0))
+    where
+      to : Means (s ∷ ss) (Broken (s .number) p) → BrokenAt s (s .number) p × LowerHold s (s ∷ ss)
+      to (inl b) = (b, (λ l. absurd (omega (arith, l)), each-so _ _ ss (λ t h l. absurd (omega (arith, h, l))) above))
+      to (inr m) = let l = numbered (λ (n : ℕ). s .number < n) ss above (s .number) p (m .1) in absurd (omega (arith, l))
+
+  -- one with a later stage's number is not the first stage's, which holds
+  later-broken : (t : Stage) → In t ss → (p : Place) → Means ss (Broken (t .number) p) ↔ (BrokenAt t (t .number) p × LowerHold t ss) →
+      Means (s ∷ ss) (Broken (t .number) p) ↔ (BrokenAt t (t .number) p × LowerHold t (s ∷ ss))
+  later-broken t i p rest = (to, λ m. inr (m .1 .0 lower, rest .1 (m .0, m .1 .1)))
+    where
+      lower : s .number < t .number
+      lower = each-in (λ (u : Stage). s .number < u .number) ss above i
+
+      to : Means (s ∷ ss) (Broken (t .number) p) → BrokenAt t (t .number) p × LowerHold t (s ∷ ss)
+      to (inl b) = absurd (omega (arith, lower, b .number))
+      to (inr m) = let r = rest .0 (m .1) in (r .0, (λ _. m .0, r .1))
+
+-- A refusal with the number of a stage of the list: that stage is broken there, and the stages with a lower number hold.
+pub ascending-broken : (k : ℕ) (ss : List Stage) → Ascending k ss → (s : Stage) → In s ss → (p : Place) →
+    Means ss (Broken (s .number) p) ↔ (BrokenAt s (s .number) p × LowerHold s ss)
+ascending-broken k [] a s i p = absurd i
+ascending-broken k (t ∷ ss) a s (inl e) p =
+    subst (λ (u : Stage). Means (t ∷ ss) (Broken (u .number) p) ↔ (BrokenAt u (u .number) p × LowerHold u (t ∷ ss))) e (first-broken k t ss a p)
+ascending-broken k (t ∷ ss) a s (inr i) p = later-broken k t ss a s i p (ascending-broken (suc (t .number)) ss (a .1) s i p)

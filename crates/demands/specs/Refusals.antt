@@ -1,0 +1,260 @@
+-- What a refusal's number and place mean, proved: which numbers there are, and the refusals by a rule and by the room as sentences.
+-- Assumes nothing.
+use Prim.Native.Nat.{ℕ, _<_, _≤_}
+use native.Mathlib.Omega.{arith}
+use mathlib.Core.Path.{_≡_, refl, subst, ap}
+use mathlib.Core.Logic.{_↔_, _⊎_, inl, inr, ⊎-elim}
+use mathlib.Core.List.{List, [], _∷_, _++_}
+use borrow.Author.Tests.{leb-false, lt-leb}
+use Rattle.stages.specs.Stage.{Stage, place, firstFault, answer, Breaks, BrokenAt, Holds, Means, means}
+use Rattle.stages.specs.declared.Place.{Place}
+use Rattle.stages.specs.declared.Fault.{Fault}
+use Rattle.stages.specs.declared.Fault.the-variants.{Broken, Clean}
+use Rattle.market.specs.Market.{Day, Choice, Prices}
+use Rattle.market.specs.Rules.{number, ruleStage, ruleStages}
+use Rattle.market.specs.RuleLaws.{test-is, breach, rule-holds, lawful-is}
+use Rattle.market.specs.declared.Rule.{Rule}
+use Rattle.market.specs.declared.Rule.the-variants.{Price, Capacity, Quantity, Balance, Step, Line, Block}
+use Rattle.market.specs.declared.Totals.{Totals}
+use Rattle.day.specs.declared.Counts.{Counts}
+use Rattle.day.specs.Day.{counts, dayStages}
+use Rattle.day.specs.Good.{GoodDay}
+use Rattle.clearing.specs.Clearing.{clearingStages, fileStages}
+use Rattle.clearing.specs.Good.{GoodClearing, files-clean}
+use Rattle.verdict.specs.Verdict.{dayOf, pricesOf, choiceOf, totalsOf, statementLengthOf, roomStage, stages, verdict, numberOf, placeOf}
+use Rattle.verdict.specs.declared.Outcome.the-variants.{Accepted, Refused}
+use Rattle.demands.specs.Sentences.{FirstBreach, TooShort}
+use Rattle.demands.specs.Laws.{refused-is-broken}
+use Rattle.demands.specs.Lists.{Each, Numbers, In, Ascending, broken-++, each-in, numbered, numbers-++, ascending-broken}
+
+-- ==== the numbers of the files
+
+abbrev FromTo : ℕ → ℕ → ℕ → Type 0
+FromTo least most k = (least ≤ k) × (k ≤ most)
+
+-- a section's four stages, and what comes after it
+four : {A B C R : Type 0} → A → B → C → R → A × (B × (A × (C × R)))
+four a b c r = (a, (b, (a, (c, r))))
+
+day-numbers : (day : List ℕ) → Numbers (FromTo 1 8) (dayStages day)
+unfolding dayStages
+day-numbers day = section (section (section (section (section ((omega arith, omega arith), tt)))))
+  where
+    section : {R : Type 0} → R → FromTo 1 8 1 × (FromTo 1 8 2 × (FromTo 1 8 1 × (FromTo 1 8 3 × R)))
+    section = four (omega arith, omega arith) (omega arith, omega arith) (omega arith, omega arith)
+
+clearing-numbers : (c : Counts) (clearing : List ℕ) → Numbers (FromTo 1 8) (clearingStages c clearing)
+unfolding clearingStages
+clearing-numbers c clearing = section (section (section (section ((omega arith, omega arith), tt))))
+  where
+    section : {R : Type 0} → R → FromTo 1 8 5 × (FromTo 1 8 6 × (FromTo 1 8 5 × (FromTo 1 8 7 × R)))
+    section = four (omega arith, omega arith) (omega arith, omega arith) (omega arith, omega arith)
+
+-- the files are refused with a number from 1 to 8
+pub file-numbers : (day clearing : List ℕ) → Numbers (λ (k : ℕ). (1 ≤ k) × (k ≤ 8)) (fileStages day clearing)
+file-numbers day clearing =
+    numbers-++ (FromTo 1 8) (dayStages day) (clearingStages (counts day) clearing) (day-numbers day) (clearing-numbers (counts day) clearing)
+
+-- ==== the rules
+
+module _ (d : Day) (p : Prices) (c : Choice) where
+  abbrev stageOf : Rule → Stage
+  stageOf = ruleStage d p c
+
+  rule-number : (rule : Rule) → FromTo 11 17 (number rule)
+  rule-number Price = (omega arith, omega arith)
+  rule-number Capacity = (omega arith, omega arith)
+  rule-number Quantity = (omega arith, omega arith)
+  rule-number Balance = (omega arith, omega arith)
+  rule-number Step = (omega arith, omega arith)
+  rule-number Line = (omega arith, omega arith)
+  rule-number Block = (omega arith, omega arith)
+
+  -- every rule is in the list, and there are no other stages in it
+  listed : (rule : Rule) → In (stageOf rule) (ruleStages d p c)
+  listed Price = inl refl
+  listed Capacity = inr (inl refl)
+  listed Quantity = inr (inr (inl refl))
+  listed Balance = inr (inr (inr (inl refl)))
+  listed Step = inr (inr (inr (inr (inl refl))))
+  listed Line = inr (inr (inr (inr (inr (inl refl)))))
+  listed Block = inr (inr (inr (inr (inr (inr (inl refl))))))
+
+  each-rule : (P : Stage → Type 0) → ((rule : Rule) → P (stageOf rule)) → Each P (ruleStages d p c)
+  each-rule P h = (h Price, (h Capacity, (h Quantity, (h Balance, (h Step, (h Line, (h Block, tt)))))))
+
+  rule-numbers : Numbers (FromTo 11 17) (ruleStages d p c)
+  rule-numbers = each-rule (λ (s : Stage). FromTo 11 17 (s .number)) rule-number
+
+  in-order : Ascending 11 (ruleStages d p c)
+  in-order = (omega arith, (omega arith, (omega arith, (omega arith, (omega arith, (omega arith, (omega arith, tt)))))))
+
+  module _ (rule : Rule) (row col : ℕ) where
+    -- a rule names a cell by its row and its column
+    at-its-place : BrokenAt (stageOf rule) (number rule) (place row col) → Breaks (stageOf rule) row col
+    at-its-place b =
+        subst (λ (j : ℕ). Breaks (stageOf rule) row j) (ap (λ (q : Place). q .second) (b .named))
+        (subst (λ (i : ℕ). Breaks (stageOf rule) i (b .col)) (ap (λ (q : Place). q .first) (b .named)) (b .breaks))
+
+    -- a fault with a rule's number: the rule is broken there first, and those with a lower number hold
+    rule-broken : Means (ruleStages d p c) (Broken (number rule) (place row col))
+        ↔ (Breaks (stageOf rule) row col × ((r : Rule) → number r < number rule → Holds (stageOf r)))
+    rule-broken =
+        let a = ascending-broken 11 (ruleStages d p c) in-order (stageOf rule) (listed rule) (place row col) in (
+          λ m. let b = a .0 m in
+              (at-its-place (b .0), λ r. each-in (λ (t : Stage). t .number < number rule → Holds t) (ruleStages d p c) (b .1) (listed r)),
+          λ h. a .1 (
+            record { row = row; col = col; number = refl; named = refl; breaks = h .0 },
+            each-rule (λ (t : Stage). t .number < number rule → Holds t) (h .1),
+          ),
+        )
+
+-- ==== the verdict
+
+module _ (day clearing : List ℕ) (room : ℕ) where
+  abbrev ruled : List Stage
+  ruled = ruleStages (dayOf day) (pricesOf day clearing) (choiceOf day clearing)
+
+  abbrev afterFiles : List Stage
+  afterFiles = ruled ++ (roomStage day room ∷ [])
+
+  -- the room's number is 18, and it is refused where it is shorter than the statement
+  room-number : (k : ℕ) (p : Place) → Means (roomStage day room ∷ []) (Broken k p) → 18 ≡ k
+  room-number k p (inl b) = b .number
+  room-number k p (inr m) = absurd (m .1)
+
+  room-broken : Means (roomStage day room ∷ []) (Broken 18 (place 0 0)) ↔ (room < statementLengthOf day)
+  room-broken = (to, from)
+    where
+      to : Means (roomStage day room ∷ []) (Broken 18 (place 0 0)) → room < statementLengthOf day
+      to (inl b) = leb-false (statementLengthOf day) room (b .breaks .fails)
+      to (inr m) = absurd (m .1)
+
+      from : room < statementLengthOf day → Means (roomStage day room ∷ []) (Broken 18 (place 0 0))
+      from l = inl (record {
+        row = 0;
+        col = 0;
+        number = refl;
+        named = refl;
+        breaks = record {
+          row = omega arith;
+          col = omega arith;
+          fails = lt-leb (statementLengthOf day) room l;
+          above = λ y j m _. absurd (omega (arith, m));
+          left = λ j m. absurd (omega (arith, m));
+        };
+      })
+
+  broken-number : (k : ℕ) (p : Place) → Means (stages day clearing room) (Broken k p) → FromTo 1 8 k ⊎ FromTo 11 18 k
+  broken-number k p m = ⊎-elim (λ b. inl (in-files b)) (λ b. inr (⊎-elim in-rules in-room (broken-++ ruled (roomStage day room ∷ []) k p .0 (b .1))))
+      (broken-++ (fileStages day clearing) afterFiles k p .0 m)
+    where
+      in-files : Means (fileStages day clearing) (Broken k p) → FromTo 1 8 k
+      in-files b = numbered (FromTo 1 8) (fileStages day clearing) (file-numbers day clearing) k p b
+
+      in-rules : Means ruled (Broken k p) → FromTo 11 18 k
+      in-rules b =
+          let n = numbered (FromTo 11 17) ruled (rule-numbers (dayOf day) (pricesOf day clearing) (choiceOf day clearing)) k p b in
+          (n .0, omega (arith, n .1))
+
+      in-room : Means ruled Clean × Means (roomStage day room ∷ []) (Broken k p) → FromTo 11 18 k
+      in-room b = let e = room-number k p (b .1) in (omega (arith, e), omega (arith, e))
+
+  -- A refusal has a number from 1 to 8, for the files, or from 11 to 18, for the rules and the room.
+  pub refusal-number : (k : ℕ) (p : Place) → verdict day clearing room ≡ Refused k p → ((1 ≤ k) × (k ≤ 8)) ⊎ ((11 ≤ k) × (k ≤ 18))
+  refusal-number k p e = broken-number k p (refused-is-broken day clearing room k p .0 e)
+
+  -- The number 0 says that the files are accepted, with their totals; an acceptance has the number 0 and the place 0, 0.
+  pub zero-is-accepted : numberOf (verdict day clearing room) ≡ 0 → verdict day clearing room ≡ Accepted (totalsOf day clearing)
+  zero-is-accepted = by (firstFault (stages day clearing room)) refl
+    where
+      by : (f : Fault) → firstFault (stages day clearing room) ≡ f → numberOf (answer (Accepted (totalsOf day clearing)) Refused f) ≡ 0 →
+          answer (Accepted (totalsOf day clearing)) Refused f ≡ Accepted (totalsOf day clearing)
+      by Clean e z = refl
+      by (Broken k p) e z =
+          let n = broken-number k p (means (stages day clearing room) (Broken k p) .0 e) in
+          absurd (⊎-elim (λ l. omega (arith, l .0, z)) (λ l. omega (arith, l .0, z)) n)
+
+  pub accepted-is-zero : (t : Totals) → verdict day clearing room ≡ Accepted t →
+      (numberOf (verdict day clearing room) ≡ 0) × (placeOf (verdict day clearing room) ≡ place 0 0)
+  accepted-is-zero t e = (ap numberOf e, ap placeOf e)
+
+  -- a number beyond 8: both files read without fault, and the fault comes after them
+  past-files : (k : ℕ) (p : Place) → 8 < k →
+      (verdict day clearing room ≡ Refused k p) ↔ ((GoodDay day × GoodClearing (counts day) clearing) × Means afterFiles (Broken k p))
+  past-files k p l =
+      let r = refused-is-broken day clearing room k p in
+      let b = broken-++ (fileStages day clearing) afterFiles k p in
+      let g = files-clean day clearing in (
+        λ e. ⊎-elim
+            (λ m. absurd (omega (arith, l, numbered (FromTo 1 8) (fileStages day clearing) (file-numbers day clearing) k p m .1)))
+            (λ m. (g .0 (m .0), m .1))
+            (b .0 (r .0 e)),
+        λ m. r .1 (b .1 (inr (g .1 (m .0), m .1))),
+      )
+
+  -- A refusal with a rule's number and a place: the files read, that rule is the first that is broken, and first there.
+  pub refused-by-rule : (rule : Rule) (row col : ℕ) →
+      (verdict day clearing room ≡ Refused (number rule) (place row col)) ↔ FirstBreach day clearing rule row col
+  refused-by-rule rule row col =
+      let d = dayOf day in
+      let p = pricesOf day clearing in
+      let c = choiceOf day clearing in
+      let n = rule-number d p c rule in
+      let past = past-files (number rule) (place row col) (omega (arith, n .0)) in
+      let split = broken-++ ruled (roomStage day room ∷ []) (number rule) (place row col) in
+      let broken = rule-broken d p c rule row col in (
+        λ e.
+            let m = past .0 e in
+            let h = broken .0 (⊎-elim
+            (λ b. b)
+            (λ b. absurd (omega (arith, n .1, room-number (number rule) (place row col) (b .1))))
+            (split .0 (m .1))) in
+            record {
+              day-reads = m .0 .0;
+              clearing-reads = m .0 .1;
+              earlier = λ r l. rule-holds d p c r .0 (h .1 r l);
+              row-is = h .0 .row;
+              col-is = h .0 .col;
+              broken = breach d p c rule row col .0 (h .0 .fails);
+              above = λ i j l k. test-is d p c rule i j .0 (h .0 .above i j l k);
+              left = λ j l. test-is d p c rule row j .0 (h .0 .left j l);
+            },
+        λ f. past .1 (
+          (f .day-reads, f .clearing-reads),
+          split .1 (inl (broken .1 (
+            record {
+              row = f .row-is;
+              col = f .col-is;
+              fails = breach d p c rule row col .1 (f .broken);
+              above = λ i j l k. test-is d p c rule i j .1 (f .above i j l k);
+              left = λ j l. test-is d p c rule row j .1 (f .left j l);
+            },
+            λ r l. rule-holds d p c r .1 (f .earlier r l),
+          ))),
+        ),
+      )
+
+  -- A refusal with the number 18: the files read, every rule holds, and the room is shorter than the statement.
+  pub refused-by-room : (verdict day clearing room ≡ Refused 18 (place 0 0)) ↔ TooShort day clearing room
+  refused-by-room =
+      let d = dayOf day in
+      let p = pricesOf day clearing in
+      let c = choiceOf day clearing in
+      let past = past-files 18 (place 0 0) (omega arith) in
+      let split = broken-++ ruled (roomStage day room ∷ []) 18 (place 0 0) in
+      let lawful = lawful-is d p c in (
+        λ e.
+            let m = past .0 e in
+            let h : Means ruled Clean × Means (roomStage day room ∷ []) (Broken 18 (place 0 0)) = ⊎-elim
+            (λ b. absurd (omega (arith, numbered (FromTo 11 17) ruled (rule-numbers d p c) 18 (place 0 0) b .1)))
+            (λ b. b)
+            (split .0 (m .1)) in
+            record {
+              day-reads = m .0 .0;
+              clearing-reads = m .0 .1;
+              rules-hold = lawful .0 (h .0);
+              room-lacks = room-broken .0 (h .1);
+            },
+        λ s. past .1 ((s .day-reads, s .clearing-reads), split .1 (inr (lawful .1 (s .rules-hold), room-broken .1 (s .room-lacks)))),
+      )

@@ -1,0 +1,44 @@
+-- `verdicts::judge_all` meets its contract. Assumes nothing.
+use Rattle.verdicts.proofs.judge_all.Statement.{statement}
+use Rattle.verdicts.proofs.judge_all.Tie as tie
+
+abbrev Inv-loop : tie.InvT-loop
+Inv-loop file counter₀ counter = ?
+
+abbrev μ-loop : tie.MeasureT-loop
+μ-loop file counter₀ counter = ?
+
+loop-holds : tie.Need-loop-holds Inv-loop μ-loop
+loop-holds c = ?
+
+judge-one-requires : tie.Need-judge-one-requires Inv-loop μ-loop
+judge-one-requires c κs = ?
+
+returns : tie.Need-returns Inv-loop μ-loop
+returns c = ?
+
+add-counter : tie.Need-add-counter Inv-loop μ-loop
+add-counter c = ?
+
+loop-less : tie.Need-loop-less Inv-loop μ-loop
+loop-less c = ?
+
+loop-again : tie.Need-loop-again Inv-loop μ-loop
+loop-again c = ?
+
+returns-2 : tie.Need-returns-2 Inv-loop μ-loop
+returns-2 c = ?
+
+pub judge-all-spec : {M : Type 1} → statement M
+judge-all-spec =
+    tie.close
+    (tie.spec
+    Inv-loop
+    μ-loop
+    loop-holds
+    judge-one-requires
+    returns
+    add-counter
+    loop-less
+    loop-again
+    returns-2)
