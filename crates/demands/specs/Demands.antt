@@ -36,7 +36,6 @@ said-of : {x y z : Outcome} {A : Type 0} → x ≡ y → (y ≡ z) ↔ A → (x 
 said-of e h = (λ f. h .0 (sym e ∙ f), λ a. e ∙ h .1 a)
 
 module _ {day clearing before : List ℕ} {outcome : Outcome} {after : List ℕ} (c : Checked day clearing before outcome after) where
-
   -- ==== Demand 1. Any two files. A refusal has a number and a place, gives zero totals and changes no byte of the room.
 
   pub refusal-changes-nothing : {k : ℕ} {p : Place} → outcome ≡ Refused k p → after ≡ before

@@ -149,18 +149,25 @@ fn judge(day: &[u8], clearing: &[u8], room: &mut [u8]) {
     say_room(room);
 }
 
-fn judge_next(file: i32, day_length: usize, clearing_length: usize, room_length: usize)
-    requires { ⌜ («day_length» < 65536) × ((«clearing_length» < 65536) × («room_length» < 65536)) ⌝ }
-{
+// The first n bytes, or all where there are fewer.
+fn first<'a>(s: &'a [u8], n: usize) -> &'a [u8] {
+    if n < s.len() { &s[0..n] } else { s }
+}
+
+fn first_of_room<'a>(s: &'a mut [u8], n: usize) -> &'a mut [u8] {
+    if n < s.len() { &mut s[0..n] } else { s }
+}
+
+fn judge_next(file: i32, day_length: usize, clearing_length: usize, room_length: usize) {
     let mut day = io::large_buffer();
     let mut clearing = io::large_buffer();
     let mut room = filled();
-    io::read_full(file, &mut day[0..day_length]);
-    io::read_full(file, &mut clearing[0..clearing_length]);
+    io::read_full(file, first_of_room(&mut day, day_length));
+    io::read_full(file, first_of_room(&mut clearing, clearing_length));
     judge(
-        &day[0..day_length],
-        &clearing[0..clearing_length],
-        &mut room[0..room_length],
+        first(&day, day_length),
+        first(&clearing, clearing_length),
+        first_of_room(&mut room, room_length),
     );
 }
 
