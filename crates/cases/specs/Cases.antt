@@ -71,5 +71,6 @@ Shown [] = Unit
 Shown (c ∷ cs) = (verdict (c .day) (c .clearing) 60 ≡ c .outcome) × Shown cs
 
 pub shown : Shown table
-unfolding dayStages clearingStages rowOk floorOf ceilingOf stepOf lineOf forwardOf backOf blockOf quantityOf volumeOf takenOf pricesOf flowOf test market.accepted wholeSurplus rent shortfall totals sum at above-zero
+unfolding dayStages clearingStages rowOk floorOf ceilingOf stepOf lineOf forwardOf backOf blockOf quantityOf volumeOf takenOf
+    pricesOf flowOf test market.accepted wholeSurplus rent shortfall totals sum at above-zero
 shown = (refl, (refl, (refl, (refl, (refl, (refl, (refl, (refl, (refl, (refl, (refl, (refl, tt))))))))))))

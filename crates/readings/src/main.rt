@@ -16,16 +16,6 @@ fn say_number(n: usize) {
     io::print_decimal(STDOUT_FILENO, n as u64);
 }
 
-fn say_byte(x: u8) {
-    io::print_hex(STDOUT_FILENO, x as u64, 2);
-}
-
-fn say_bytes(s: &[u8]) {
-    for i in 0..s.len() {
-        say_byte(s[i]);
-    }
-}
-
 fn say_place(number: u8, place: Place) {
     say(b" ");
     say_number(number as usize);
@@ -153,7 +143,7 @@ fn say_part(part: &[u8]) {
     if 0 < part.len() {
         say(b" ");
     }
-    say_bytes(part);
+    print::bytes(part);
     say(b"\n");
 }
 

@@ -1,5 +1,5 @@
 -- The rules' stages over two files, and the laws by which the rules follow each other. Assumes nothing.
-use Prim.Native.Nat.{ℕ}
+use Prim.Native.Nat.{ℕ, _<_}
 use mathlib.Core.Path.{_≡_, sym, ap, _∙_}
 use mathlib.Core.Bool.{Bool}
 use mathlib.Core.List.{List, [], _∷_, _++_}
@@ -30,6 +30,9 @@ module _ (c : Counts) (day clearing : List ℕ) where
   stages = market.ruleStages (dayOf c day) (pricesOf c clearing) (choiceOf c clearing)
 
 -- ---- the laws by which a stage's fault is found and handed on
+
+pub below : {i m n : ℕ} → m ≡ n → i < m → i < n
+below e l = rw (← e) l
 
 -- what is found of a stage is its fault
 pub found : (s : Stage) {p q : Spot} → p ≡ spot s → p ≡ q → faultAt s q Clean ≡ firstFault (s ∷ [])

@@ -89,7 +89,8 @@ module _ {day clearing : List ℕ} {c : Counts} (o : OfFiles day clearing c) whe
   pub released : Clean ≡ firstFault (rules.stages c day clearing) → Released day clearing c
   released e = record {
     of-files = o;
-    lawful = lawful-is (book.dayOf c day) (book.pricesOf c clearing) (book.choiceOf c clearing) .0 (means (rules.stages c day clearing) Clean .0 (sym e));
+    lawful = lawful-is (book.dayOf c day) (book.pricesOf c clearing) (book.choiceOf c clearing) .0
+        (means (rules.stages c day clearing) Clean .0 (sym e));
   }
 
   -- the room, and what is left in it
@@ -98,7 +99,8 @@ module _ {day clearing : List ℕ} {c : Counts} (o : OfFiles day clearing c) whe
       in-hand (λ (k : Counts). room < statementLength (netCount k) → Refused 18 (place 0 0) ≡ fromRoom day clearing room)
       (λ l. rw (lt-leb (statementLengthOf day) room l))
 
-  pub long-enough : (room : ℕ) → statementLength (netCount c) ≤ room → {t : Totals} → t ≡ sums.totals c day clearing → Accepted t ≡ fromRoom day clearing room
+  pub long-enough : (room : ℕ) → statementLength (netCount c) ≤ room → {t : Totals} → t ≡ sums.totals c day clearing →
+      Accepted t ≡ fromRoom day clearing room
   long-enough room l {t} e =
       in-hand (λ (k : Counts). statementLength (netCount k) ≤ room → t ≡ sums.totals k day clearing → Accepted t ≡ fromRoom day clearing room)
       (λ l e. rw (le-leb (statementLengthOf day) room l) (ap Accepted e)) l e

@@ -22,13 +22,6 @@ fn say_number(n: usize) {
     io::print_decimal(STDOUT_FILENO, n as u64);
 }
 
-fn say_signed(v: i64) {
-    if v < 0 {
-        say(b"-");
-    }
-    io::print_decimal(STDOUT_FILENO, wire::size(v));
-}
-
 // ---- the verdict and the totals
 
 fn say_verdict(number: u8, place: Place) {
@@ -43,7 +36,7 @@ fn say_verdict(number: u8, place: Place) {
 
 fn say_total(name: &[u8], v: i64) {
     say(name);
-    say_signed(v);
+    print::signed(v);
     say(b"\n");
 }
 
@@ -86,7 +79,7 @@ fn say_net(codes: &[u8], room: &[u8], periods: usize, k: usize)
     say(b" ");
     say_number(k % periods);
     say(b" ");
-    say_signed(i32_or_zero(room, 52 + 4 * k));
+    print::signed(i32_or_zero(room, 52 + 4 * k));
     say(b"\n");
 }
 
@@ -100,19 +93,9 @@ fn say_nets(codes: &[u8], room: &[u8], periods: usize) {
 
 // ---- one pair
 
-fn say_byte(x: u8) {
-    io::print_hex(STDOUT_FILENO, x as u64, 2);
-}
-
-fn say_bytes(s: &[u8]) {
-    for i in 0..s.len() {
-        say_byte(s[i]);
-    }
-}
-
 fn say_room(room: &[u8]) {
     say(b"room ");
-    say_bytes(room);
+    print::bytes(room);
     say(b"\n");
 }
 

@@ -1,9 +1,10 @@
 -- `market::bought` meets its contract. Assumes nothing.
 use mathlib.Core.Path.{_∙_}
+use lib.IntN.{pos}
 use mir.Syntax.{w64}
-use mir.ValLaws.{toZ-ofZ}
 use Rattle.whole.specs.Size.{same}
 use borrow.Author.Needs.{needs}
+use Rattle.market.proofs.Gains.{gained, zero-fits}
 use Rattle.market.proofs.bought.Statement.{statement}
 use Rattle.market.proofs.bought.Tie as tie
 
@@ -46,23 +47,14 @@ negative-requires c κs = search needs
 returns : tie.Need-returns
 returns c =
     let s = c .before .before .before .before in
-    rw (
-      c .before .before .enum-told .given .1,
-      same (c .gain .result) (c .gain .ok),
-      c .gain .ensures,
-      toZ-ofZ w64 (s .args .t .limit) (record { sfits = c .before .struct-told .given .1 .1 .1 .0 .1 }),
-    )
+    rw (c .before .before .enum-told .given .1)
+    (gained (s .args .t .limit) (pos 0) (s .args .t .volume) (record { sfits = c .before .struct-told .given .1 .1 .1 .0 .1 }) zero-fits (c .gain .ok) (c .gain .ensures))
 
 returns-2 : tie.Need-returns-2
 returns-2 c =
     let s = c .before .before .before .before in
-    rw (
-      c .before .before .enum-told2 .given .1,
-      same (c .gain2 .result) (c .gain2 .ok),
-      c .gain2 .ensures,
-      toZ-ofZ w64 (s .args .t .limit) (record { sfits = c .before .struct-told2 .given .1 .1 .1 .0 .1 }),
-      toZ-ofZ w64 (s .args .price) (s .fits .price),
-    )
+    rw (c .before .before .enum-told2 .given .1)
+    (gained (s .args .t .limit) (s .args .price) (s .args .t .volume) (record { sfits = c .before .struct-told2 .given .1 .1 .1 .0 .1 }) (s .fits .price) (c .gain2 .ok) (c .gain2 .ensures))
 
 returns-3 : tie.Need-returns-3
 returns-3 c = rw (c .enum-told3 .given .1)
@@ -73,13 +65,8 @@ returns-4 c = rw (c .before .enum-told4 .given .1) (same (c .wide .result) (c .w
 returns-5 : tie.Need-returns-5
 returns-5 c =
     let s = c .before .before .before .before in
-    rw (
-      c .before .before .enum-told5 .given .1,
-      same (c .gain3 .result) (c .gain3 .ok),
-      c .gain3 .ensures,
-      toZ-ofZ w64 (s .args .t .limit) (record { sfits = c .before .struct-told3 .given .1 .1 .1 .0 .1 }),
-      toZ-ofZ w64 (s .args .price) (s .fits .price),
-    )
+    rw (c .before .before .enum-told5 .given .1)
+    (gained (s .args .t .limit) (s .args .price) (s .args .t .volume) (record { sfits = c .before .struct-told3 .given .1 .1 .1 .0 .1 }) (s .fits .price) (c .gain3 .ok) (c .gain3 .ensures))
 
 returns-6 : tie.Need-returns-6
 returns-6 c =

@@ -1,9 +1,10 @@
 -- `market::sold` meets its contract. Assumes nothing.
 use mir.Syntax.{w64}
-use mir.ValLaws.{toZ-ofZ}
 use mathlib.Core.Path.{_∙_}
+use lib.IntN.{pos}
 use Rattle.whole.specs.Size.{same}
 use borrow.Author.Needs.{needs}
+use Rattle.market.proofs.Gains.{gained, zero-fits}
 use Rattle.market.proofs.sold.Statement.{statement}
 use Rattle.market.proofs.sold.Tie as tie
 
@@ -40,12 +41,8 @@ volume-at-requires c κs = search needs
 returns : tie.Need-returns
 returns c =
     let s = c .before .before .before .before in
-    rw (
-      c .before .before .enum-told .given .1,
-      same (c .gain .result) (c .gain .ok),
-      c .gain .ensures,
-      toZ-ofZ w64 (s .args .t .limit) (record { sfits = c .before .struct-told .given .1 .1 .1 .0 .1 }),
-    )
+    rw (c .before .before .enum-told .given .1)
+    (gained (pos 0) (s .args .t .limit) (s .args .t .volume) zero-fits (record { sfits = c .before .struct-told .given .1 .1 .1 .0 .1 }) (c .gain .ok) (c .gain .ensures))
 
 returns-2 : tie.Need-returns-2
 returns-2 c = rw (c .enum-told2 .given .1)
@@ -53,13 +50,8 @@ returns-2 c = rw (c .enum-told2 .given .1)
 returns-3 : tie.Need-returns-3
 returns-3 c =
     let s = c .before .before .before .before in
-    rw (
-      c .before .before .enum-told3 .given .1,
-      same (c .gain2 .result) (c .gain2 .ok),
-      c .gain2 .ensures,
-      toZ-ofZ w64 (s .args .t .limit) (record { sfits = c .before .struct-told2 .given .1 .1 .1 .0 .1 }),
-      toZ-ofZ w64 (s .args .price) (s .fits .price),
-    )
+    rw (c .before .before .enum-told3 .given .1)
+    (gained (s .args .price) (s .args .t .limit) (s .args .t .volume) (s .fits .price) (record { sfits = c .before .struct-told2 .given .1 .1 .1 .0 .1 }) (c .gain2 .ok) (c .gain2 .ensures))
 
 returns-4 : tie.Need-returns-4
 returns-4 c = rw (c .enum-told4 .given .1)
@@ -67,13 +59,8 @@ returns-4 c = rw (c .enum-told4 .given .1)
 returns-5 : tie.Need-returns-5
 returns-5 c =
     let s = c .before .before .before .before in
-    rw (
-      c .before .before .enum-told5 .given .1,
-      same (c .gain3 .result) (c .gain3 .ok),
-      c .gain3 .ensures,
-      toZ-ofZ w64 (s .args .t .limit) (record { sfits = c .before .struct-told3 .given .1 .1 .1 .0 .1 }),
-      toZ-ofZ w64 (s .args .price) (s .fits .price),
-    )
+    rw (c .before .before .enum-told5 .given .1)
+    (gained (s .args .price) (s .args .t .limit) (s .args .t .volume) (s .fits .price) (record { sfits = c .before .struct-told3 .given .1 .1 .1 .0 .1 }) (c .gain3 .ok) (c .gain3 .ensures))
 
 returns-6 : tie.Need-returns-6
 returns-6 c = rw (c .before .before .m .given .1) (same (c .volume-at .result) (c .volume-at .ok) ∙ c .volume-at .ensures .0)

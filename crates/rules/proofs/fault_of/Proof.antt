@@ -21,7 +21,9 @@ returns : tie.Need-returns
 returns c =
     let a = c .before .before .before .before .before .before .before .args in
     rw (c .number-of .ensures)
-    (found (stage (a .counts) (now (a .day)) (now (a .clearing)) (a .rule)) (c .before .before .before .before .first-broken .ensures) (c .before .before .row .given .1))
+    (found (stage (a .counts) (now (a .day)) (now (a .clearing)) (a .rule))
+    (c .before .before .before .before .first-broken .ensures)
+    (c .before .before .row .given .1))
 
 returns-2 : tie.Need-returns-2
 returns-2 c =

@@ -7,7 +7,7 @@ use borrow.Author.Needs.{needs}
 use Rattle.stages.specs.First.{Passed, none-yet, more}
 use Rattle.stages.specs.Table.{RowsPassed, no-row-yet, row-more, stop-cell, done-table}
 use Rattle.stages.specs.declared.Spot.the-variants.{Nowhere}
-use Rattle.rules.specs.Judge.{test}
+use Rattle.rules.specs.Judge.{test, below}
 use Rattle.rules.proofs.first_broken.Statement.{statement}
 use Rattle.rules.proofs.first_broken.Tie as tie
 
@@ -41,7 +41,9 @@ holds-at-requires : tie.Need-holds-at-requires Inv-loop μ-loop Inv-scan μ-scan
 holds-at-requires c κs =
     let columns = c .before .before .before .before in
     let rows = columns .before in
-    (rows .before .before .before .pre, (rw (rows .rows-of .ensures) at (c .before .before .scan-test .taken), rw (columns .columns-of .ensures) at (c .loop-test .taken)))
+    let row = below (rows .rows-of .ensures) (c .before .before .scan-test .taken) in
+    let column = below (columns .columns-of .ensures) (c .loop-test .taken) in
+    (rows .before .before .before .pre, (row, column))
 
 add-column : tie.Need-add-column Inv-loop μ-loop Inv-scan μ-scan
 add-column c = search needs
@@ -70,7 +72,8 @@ returns c =
     let columns = c .before .before in
     let rows = columns .before in
     c .before .scan .inv .1 .0
-    ∙ done-table (rw (columns .columns-of .ensures) at (c .before .scan .inv .1 .1)) (rw (rows .rows-of .ensures) at (c .before .scan .inv .0)) (rw (rows .rows-of .ensures) at (c .scan-test .left))
+    ∙ done-table (c .before .scan .inv .1 .1) (c .before .scan .inv .0) (c .scan-test .left)
+    ∙ rw (columns .columns-of .ensures, rows .rows-of .ensures)
 
 returns-2 : tie.Need-returns-2 Inv-loop μ-loop Inv-scan μ-scan
 returns-2 c =

@@ -9,7 +9,8 @@ use Rattle.rules.proofs.holds_at.Statement.{statement}
 use Rattle.rules.proofs.holds_at.Tie as tie
 
 -- the place is one of the rule that it is known to be
-place : (s : tie.Start) {rule : Rule} → s .args .rule ≡ rule → (s .args .row < rowsOf (s .args .counts) rule) × (s .args .column < columnsOf (s .args .counts) rule)
+place : (s : tie.Start) {rule : Rule} → s .args .rule ≡ rule →
+    (s .args .row < rowsOf (s .args .counts) rule) × (s .args .column < columnsOf (s .args .counts) rule)
 place s e =
     let a = s .args in
     subst (λ (rule : Rule). (a .row < rowsOf (a .counts) rule) × (a .column < columnsOf (a .counts) rule)) e (s .pre .1)

@@ -1,4 +1,4 @@
--- `verdicts::judge_all` meets its contract. Assumes nothing.
+-- `verdicts::judge_all` is safe. Assumes nothing.
 use Prim.Native.Nat.{_-_, _≤_}
 use native.Mathlib.Omega.{arith}
 use borrow.Author.Needs.{needs}

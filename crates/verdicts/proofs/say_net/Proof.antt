@@ -1,4 +1,4 @@
--- `verdicts::say_net` meets its contract. Assumes nothing.
+-- `verdicts::say_net` is safe. Assumes nothing.
 use native.Mathlib.Nat.{div-le-self}
 use native.Mathlib.Omega.{arith}
 use borrow.Author.Needs.{needs}
@@ -50,8 +50,8 @@ add-i32-or-zero c = search needs
 i32-or-zero-requires : tie.Need-i32-or-zero-requires
 i32-or-zero-requires c κs = search needs
 
-say-signed-requires : tie.Need-say-signed-requires
-say-signed-requires c κs = search needs
+signed-requires : tie.Need-signed-requires
+signed-requires c κs = search needs
 
 slice-aggregate-say-4 : tie.Need-slice-aggregate-say-4
 slice-aggregate-say-4 c = search needs
@@ -81,7 +81,7 @@ say-net-spec =
     mul-i32-or-zero
     add-i32-or-zero
     i32-or-zero-requires
-    say-signed-requires
+    signed-requires
     slice-aggregate-say-4
     say-requires-4
     returns)

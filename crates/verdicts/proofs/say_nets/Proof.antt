@@ -1,4 +1,4 @@
--- `verdicts::say_nets` meets its contract. Assumes nothing.
+-- `verdicts::say_nets` is safe. Assumes nothing.
 use Prim.Native.Nat.{_-_, _≤_}
 use native.Mathlib.Omega.{arith}
 use borrow.Author.Needs.{needs}

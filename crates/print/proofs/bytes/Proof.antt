@@ -1,10 +1,10 @@
--- `verdicts::say_bytes` is safe. Assumes nothing.
+-- `print::bytes` is safe. Assumes nothing.
 use mathlib.Core.Path.{_≡_}
 use Prim.Native.Nat.{_-_}
 use lib.ListN.{length}
 use borrow.Author.Needs.{needs}
-use Rattle.verdicts.proofs.say_bytes.Statement.{statement}
-use Rattle.verdicts.proofs.say_bytes.Tie as tie
+use Rattle.print.proofs.bytes.Statement.{statement}
+use Rattle.print.proofs.bytes.Tie as tie
 
 abbrev Inv-loop : tie.InvT-loop
 Inv-loop s i₀ i-end i = i-end ≡ length s
@@ -15,11 +15,11 @@ abbrev μ-loop : tie.MeasureT-loop
 loop-holds : tie.Need-loop-holds Inv-loop μ-loop
 loop-holds c = search needs
 
-shared-slice-read-say-byte : tie.Need-shared-slice-read-say-byte Inv-loop μ-loop
-shared-slice-read-say-byte c = search needs
+shared-slice-read-byte : tie.Need-shared-slice-read-byte Inv-loop μ-loop
+shared-slice-read-byte c = search needs
 
-say-byte-requires : tie.Need-say-byte-requires Inv-loop μ-loop
-say-byte-requires c κs = search needs
+byte-requires : tie.Need-byte-requires Inv-loop μ-loop
+byte-requires c κs = search needs
 
 add-i : tie.Need-add-i Inv-loop μ-loop
 add-i c = search needs
@@ -33,15 +33,15 @@ loop-again c = search needs
 returns : tie.Need-returns Inv-loop μ-loop
 returns c = search needs
 
-pub say-bytes-spec : {M : Type 1} → statement M
-say-bytes-spec =
+pub bytes-spec : {M : Type 1} → statement M
+bytes-spec =
     tie.close
     (tie.spec
     Inv-loop
     μ-loop
     loop-holds
-    shared-slice-read-say-byte
-    say-byte-requires
+    shared-slice-read-byte
+    byte-requires
     add-i
     loop-less
     loop-again

@@ -1,0 +1,2 @@
+-- What `gain` answers, as those who call it pass it on.
+pub mod Gains
