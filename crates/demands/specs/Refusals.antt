@@ -25,7 +25,7 @@ use Rattle.verdict.specs.Verdict.{dayOf, pricesOf, choiceOf, totalsOf, statemen
 use Rattle.verdict.specs.declared.Outcome.the-variants.{Accepted, Refused}
 use Rattle.demands.specs.Sentences.{FirstBreach, TooShort}
 use Rattle.demands.specs.Laws.{refused-is-broken}
-use Rattle.demands.specs.Lists.{Each, Numbers, In, Ascending, broken-++, each-in, numbered, numbers-++, ascending-broken}
+use Rattle.stages.specs.Lists.{Each, Numbers, In, Ascending, broken-++, each-in, numbered, numbers-++, ascending-broken}
 
 -- ==== the numbers of the files
 

@@ -107,10 +107,6 @@ module _ (d : Day) (c : Choice) where
   abbrev pub entering : ℕ → ℕ → ℤ
   entering zone period = sum (d .lines) (λ l. at (d .line l .to) (c .flow l period) zone)
 
-  -- of one line: its flow where the zone is "from", less its flow where it is "to"
-  abbrev pub lineLeaves : ℕ → ℕ → ℕ → ℤ
-  lineLeaves zone period l = at (d .line l .from) (c .flow l period) zone -ℤ at (d .line l .to) (c .flow l period) zone
-
 -- ---- the totals
 
 module _ (d : Day) (c : Choice) where

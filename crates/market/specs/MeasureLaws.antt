@@ -13,9 +13,9 @@ use Rattle.whole.specs.Size.{abs-neg, abs--, abs-*-≤, at-size, above-zero-siz
 use Rattle.limits.specs.Limits.{mostPeriods, mostLines, mostSteps, mostBlocks, mostPrice, mostFlow, mostVolume}
 use Rattle.market.specs.Market.{Day, Choice, Prices, blockVolume, stepTrade, blockTrade, ofSells, ofBuys, volumeAt, margin}
 use Rattle.market.specs.Market.{accepted, netPosition, leaving, entering, orderValue, tradedVolume, wholeSurplus, missed}
-use Rattle.market.specs.Market.{buyerSurplus, sellerSurplus, rentAt, lineLeaves}
+use Rattle.market.specs.Market.{buyerSurplus, sellerSurplus, rentAt}
 use Rattle.market.specs.Range.{Placed, Ranged}
-use Rattle.market.specs.Measures.{gain, sold, bought, bySide, measured, priced, Small, stepMeasured, blockMeasured}
+use Rattle.market.specs.Measures.{lineLeaves, gain, sold, bought, bySide, measured, priced, Small, stepMeasured, blockMeasured}
 use Rattle.market.specs.declared.Side.{Side}
 use Rattle.market.specs.declared.Side.the-variants.{Sell, Buy}
 use Rattle.market.specs.declared.Trade.{Trade}

@@ -1,9 +1,9 @@
--- What is counted of one trade at its price, as the code counts it. Assumes nothing.
+-- What is counted of one trade at its price, and of a line, as the code counts it. Assumes nothing.
 use Prim.Native.Nat.{ℕ, _≤_}
 use mathlib.Core.Bool.{Bool}
 use lib.IntN.{ℤ, pos, negℤ, natAbs, _-ℤ_, _*ℤ_}
 use Rattle.limits.specs.Limits.{mostPrice, mostVolume}
-use Rattle.whole.specs.Whole.{sum}
+use Rattle.whole.specs.Whole.{sum, at}
 use Rattle.market.specs.Market.{Day, Choice, Prices, blockVolume, stepTrade, blockTrade, volumeAt}
 use Rattle.market.specs.declared.Side.{Side}
 use Rattle.market.specs.declared.Side.the-variants.{Sell, Buy}
@@ -55,3 +55,7 @@ module _ (d : Day) (p : Prices) where
 
   unfoldable pub blockMeasured : Measure → ℕ → Bool → ℤ
   blockMeasured m k taken = sum (d .periods) (λ h. priced m p (blockTrade (d .block k) h (blockVolume taken (d .quantity k h))))
+
+-- what a line takes from a zone in a period: its flow where the zone is "from", less its flow where it is "to"
+abbrev pub lineLeaves : Day → Choice → ℕ → ℕ → ℕ → ℤ
+lineLeaves d c zone period l = at (d .line l .from) (c .flow l period) zone -ℤ at (d .line l .to) (c .flow l period) zone

@@ -1,16 +1,14 @@
 -- The tests of the rules are their sentences, and what a choice has that obeys them. Assumes nothing.
-use Prim.Native.Nat.{ℕ, _<_, _≤_}
+use Prim.Native.Nat.{ℕ, _<_}
 use native.Mathlib.Omega.{arith}
 use mathlib.Core.Path.{_≡_, refl}
 use mathlib.Core.Logic.{_↔_, _⊎_, inl, inr, Iff·rfl}
 use mathlib.Core.Bool.{Bool, true, false, cond, _||_, not}
-use lib.Dec.{leb, eqb}
 use lib.IntN.{ℤ, pos, negℤ, _-ℤ_, _*ℤ_}
-use borrow.Author.Tests.{leb-true, le-leb, eqb-true, eq-eqb}
 use Rattle.whole.specs.Whole.{_≼_, _≺_, above-zero, sum}
 use Rattle.whole.specs.Ring.{given, linear, ring, leZ-true, leZ-false, ≼-refl, ≼-antisym, ≼-or-<, *-nonneg, above-zero-nonneg}
 use Rattle.whole.specs.Sums.{sums, sum-nonneg}
-use Rattle.stages.specs.First.{both, apart}
+use Rattle.stages.specs.First.{both, apart, leb-is, eqb-is}
 use Rattle.stages.specs.Stage.{Holds, Means}
 use Rattle.stages.specs.declared.Fault.the-variants.{Clean}
 use Rattle.market.specs.Market.{Day, Choice, Prices, margin, wholeSurplus, rent, shortfall}
@@ -23,12 +21,6 @@ use Rattle.market.specs.declared.Rule.{Rule}
 use Rattle.market.specs.declared.Rule.the-variants.{Price, Capacity, Quantity, Balance, Step, Line, Block}
 
 -- ---- a test's answer, as a fact
-
-leb-is : (a b : ℕ) → (leb a b ≡ true) ↔ (a ≤ b)
-leb-is a b = (leb-true a b, le-leb a b)
-
-eqb-is : (a b : ℕ) → (eqb a b ≡ true) ↔ (a ≡ b)
-eqb-is a b = (eqb-true a b, eq-eqb a b)
 
 unless : (a b : Bool) → ((a || b) ≡ true) ↔ (a ≡ false → b ≡ true)
 unless true b = (λ _ e. apart refl e, λ _. refl)

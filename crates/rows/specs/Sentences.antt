@@ -6,13 +6,11 @@ use mathlib.Core.Path.{_≡_, refl}
 use mathlib.Core.Logic.{_↔_, ⊎-elim}
 use mathlib.Core.Bool.{Bool, true, false, not}
 use mathlib.Core.List.{List}
-use lib.Dec.{leb, ltb, eqb}
 use lib.IntN.{ℤ, pos, negℤ}
-use borrow.Author.Tests.{leb-true, leb-false, le-leb, lt-leb, ltb-true, lt-ltb, eqb-true, eq-eqb}
 use Rattle.wire.specs.Bytes.{u8At, u32At, i32At}
 use Rattle.whole.specs.Whole.{_≼_}
 use Rattle.whole.specs.Ring.{leZ-true}
-use Rattle.stages.specs.First.{every, Says, firstBad, foundNothing, says, every-first, every-is, both, apart}
+use Rattle.stages.specs.First.{every, Says, firstBad, foundNothing, says, every-first, every-is, both, apart, leb-is, leb-false-is, ltb-is, eqb-is, not-is}
 use Rattle.stages.specs.declared.Found.{Found}
 use Rattle.stages.specs.declared.Found.the-variants.{At, Nothing}
 use Rattle.limits.specs.Limits.{mostPrice, mostFlow, mostVolume, isPrice, isFlow}
@@ -69,22 +67,6 @@ pub record BlockRow (periods zones : ℕ) (part : List ℕ) (at : ℕ) : Type 0 
   pub some-above : 0 < blockQuantity part at some-period
 
 -- ---- a test's answer, as a fact
-
-leb-is : (a b : ℕ) → (leb a b ≡ true) ↔ (a ≤ b)
-leb-is a b = (leb-true a b, le-leb a b)
-
-leb-false-is : (a b : ℕ) → (leb a b ≡ false) ↔ (b < a)
-leb-false-is a b = (leb-false a b, lt-leb a b)
-
-ltb-is : (a b : ℕ) → (ltb a b ≡ true) ↔ (a < b)
-ltb-is a b = (ltb-true a b, lt-ltb a b)
-
-eqb-is : (a b : ℕ) → (eqb a b ≡ true) ↔ (a ≡ b)
-eqb-is a b = (eqb-true a b, eq-eqb a b)
-
-not-is : (b : Bool) → (not b ≡ true) ↔ ¬ (b ≡ true)
-not-is true = (λ e _. apart e refl, λ n. absurd (n refl))
-not-is false = (λ _ e. apart e refl, λ _. refl)
 
 not-every-is : (n : ℕ) (t : ℕ → Bool) → (not (every n t) ≡ true) ↔ ((j : ℕ) × ((j < n) × (t j ≡ false)))
 not-every-is n t = (

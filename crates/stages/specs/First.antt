@@ -5,7 +5,9 @@ use native.Mathlib.Numerals.{add-one}
 use native.Mathlib.Omega.{arith}
 use mathlib.Core.Path.{_≡_, refl, sym}
 use mathlib.Core.Logic.{_⊎_, inl, inr, ⊎-elim, _↔_}
-use mathlib.Core.Bool.{Bool, true, false, _&&_}
+use mathlib.Core.Bool.{Bool, true, false, _&&_, not}
+use lib.Dec.{leb, ltb, eqb}
+use borrow.Author.Tests.{leb-true, leb-false, le-leb, lt-leb, ltb-true, lt-ltb, eqb-true, eq-eqb}
 use Rattle.stages.specs.declared.Found.{Found}
 use Rattle.stages.specs.declared.Found.the-variants.{At, Nothing}
 
@@ -44,6 +46,24 @@ apart e f = let z : _≡_ {A = ℕ} 0 1 = cc in absurd (omega arith)
 pub both : (a b : Bool) → ((a && b) ≡ true) ↔ ((a ≡ true) × (b ≡ true))
 both true b = (λ e. (refl, e), λ e. e .1)
 both false b = (λ e. apart e refl, λ e. apart (e .0) refl)
+
+-- ---- a test's answer, as a fact
+
+pub leb-is : (a b : ℕ) → (leb a b ≡ true) ↔ (a ≤ b)
+leb-is a b = (leb-true a b, le-leb a b)
+
+pub leb-false-is : (a b : ℕ) → (leb a b ≡ false) ↔ (b < a)
+leb-false-is a b = (leb-false a b, lt-leb a b)
+
+pub ltb-is : (a b : ℕ) → (ltb a b ≡ true) ↔ (a < b)
+ltb-is a b = (ltb-true a b, lt-ltb a b)
+
+pub eqb-is : (a b : ℕ) → (eqb a b ≡ true) ↔ (a ≡ b)
+eqb-is a b = (eqb-true a b, eq-eqb a b)
+
+pub not-is : (b : Bool) → (not b ≡ true) ↔ ¬ (b ≡ true)
+not-is true = (λ e _. apart e refl, λ n. absurd (n refl))
+not-is false = (λ _ e. apart e refl, λ _. refl)
 
 -- ---- the laws a loop goes by: nothing passed yet; the test holds at i; it fails at i; the end
 

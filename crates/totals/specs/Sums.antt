@@ -5,6 +5,7 @@ use mathlib.Core.List.{List}
 use lib.IntN.{ℤ, _-ℤ_}
 use Rattle.whole.specs.Whole.{sum}
 use Rattle.market.specs.Market as market
+use Rattle.market.specs.Measures as measures
 use Rattle.market.specs.Measures.{Small, priced, stepMeasured, blockMeasured}
 use Rattle.market.specs.declared.Trade.{Trade}
 use Rattle.market.specs.declared.Totals.{Totals}
@@ -64,7 +65,7 @@ module _ (c : Counts) (day clearing : List ℕ) where
 
   -- flows leaving less flows entering, of one line and of all
   abbrev pub lineLeaves : ℕ → ℕ → ℕ → ℤ
-  lineLeaves = market.lineLeaves (dayOf c day) (choiceOf c clearing)
+  lineLeaves = measures.lineLeaves (dayOf c day) (choiceOf c clearing)
 
   abbrev pub netFlow : ℕ → ℕ → ℤ
   netFlow zone period =

@@ -1,37 +1,37 @@
--- `print::bytes` is safe. Assumes nothing.
-use mathlib.Core.Path.{_≡_}
-use Prim.Native.Nat.{_-_}
+-- `print::bytes` meets its contract. Assumes nothing.
+use Prim.Native.Nat.{_-_, _≤_}
+use native.Mathlib.Omega.{arith}
 use lib.ListN.{length}
 use borrow.Author.Needs.{needs}
 use Rattle.print.proofs.bytes.Statement.{statement}
 use Rattle.print.proofs.bytes.Tie as tie
 
 abbrev Inv-loop : tie.InvT-loop
-Inv-loop s i₀ i-end i = i-end ≡ length s
+Inv-loop s n₀ n = n ≤ length s
 
 abbrev μ-loop : tie.MeasureT-loop
-μ-loop s i₀ i-end i = i-end - i
+μ-loop s n₀ n = length s - n
 
 loop-holds : tie.Need-loop-holds Inv-loop μ-loop
-loop-holds c = search needs
+loop-holds c = omega arith
 
 shared-slice-read-byte : tie.Need-shared-slice-read-byte Inv-loop μ-loop
-shared-slice-read-byte c = search needs
+shared-slice-read-byte c = omega arith
 
 byte-requires : tie.Need-byte-requires Inv-loop μ-loop
 byte-requires c κs = search needs
 
-add-i : tie.Need-add-i Inv-loop μ-loop
-add-i c = search needs
+add-n : tie.Need-add-n Inv-loop μ-loop
+add-n c = omega arith
 
 loop-less : tie.Need-loop-less Inv-loop μ-loop
-loop-less c = search needs
+loop-less c = omega arith
 
 loop-again : tie.Need-loop-again Inv-loop μ-loop
-loop-again c = search needs
+loop-again c = omega arith
 
 returns : tie.Need-returns Inv-loop μ-loop
-returns c = search needs
+returns c = omega arith
 
 pub bytes-spec : {M : Type 1} → statement M
 bytes-spec =
@@ -42,7 +42,7 @@ bytes-spec =
     loop-holds
     shared-slice-read-byte
     byte-requires
-    add-i
+    add-n
     loop-less
     loop-again
     returns)
