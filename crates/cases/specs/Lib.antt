@@ -2,3 +2,5 @@
 pub mod Files
 -- The table of cases, and that each has its outcome.
 pub mod Cases
+-- The errors that this trade has made, with the rule paper's numbers.
+pub mod Errors

@@ -1,8 +1,5 @@
 // The trade with no bytes: orders and lines, what is accepted of them, the rules' tests at one place, and what a trade counts.
 ghost use mathlib.Core.Path.{_≡_};
-ghost use mathlib.Core.Bool.{_&&_, _||_, not};
-ghost use lib.Dec.{leb};
-ghost use lib.Signed.{leZ};
 ghost use Prim.Native.Nat.{_≤_};
 ghost use lib.IntN.{pos, negℤ, natAbs, _+ℤ_, _-ℤ_, _*ℤ_};
 ghost use mir.Syntax.{w64};

@@ -12,7 +12,7 @@ ghost use Rattle.book.specs.Of.{OfFiles};
 ghost use Rattle.statement.specs.Statement.{head, nets, statement, statementLength};
 ghost use Rattle.statement.specs.Of.{netCount, flowRow, netRow, Balanced};
 
-pub fn put_head(room: &mut [u8], t: Totals, n: u16)
+fn put_head(room: &mut [u8], t: Totals, n: u16)
     requires { ⌜ 52 ≤ length (now room) ⌝ }
     ensures { λ r. ⌜ now (room .exit) ≡ put (now (room .entry)) 0 (head t n) ⌝ }
 {
@@ -33,7 +33,7 @@ fn narrow(v: i64) -> i32
     v as i32
 }
 
-pub fn put_net(room: &mut [u8], at: usize, v: i64)
+fn put_net(room: &mut [u8], at: usize, v: i64)
     requires { ⌜ (at + 4 ≤ length (now room)) × (SFits w32 v) ⌝ }
     ensures { λ r. ⌜ now (room .exit) ≡ put (now (room .entry)) at (bytes32 (bits32 v)) ⌝ }
 {
@@ -48,7 +48,8 @@ pub fn statement_length(counts: Counts) -> usize
     52 + 4 * (counts.zones * counts.periods)
 }
 
-// The net positions, ordered like prices. In a balanced clearing a net position is what its lines carry away, so the steps are not read again.
+// The net positions, ordered like prices. In a balanced clearing a net position is what its lines carry away, so the steps are not read
+// again.
 fn put_nets(room: &mut [u8], day: &[u8], clearing: &[u8], counts: Counts)
     requires { ⌜ (OfFiles (now day) (now clearing) counts) × (statementLength (netCount counts) ≤ length (now room)) ⌝ }
     ensures { λ r. ⌜ now (room .exit) ≡ put (now (room .entry)) 52 (nets (flowRow counts (now (day .entry)) (now (clearing .entry))) (netCount counts)) ⌝ }
