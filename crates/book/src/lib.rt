@@ -10,7 +10,10 @@ ghost use Prim.Native.Nat.{_+_, _*_, _≤_, _<_};
 ghost use lib.IntN.{pos, negℤ};
 ghost use lib.ListN.{length};
 ghost use Rattle.limits.specs.Limits.{mostPeriods};
+ghost use Rattle.wire.specs.Bytes.{u32At};
 ghost use Rattle.rows.specs.Rows.{rowStart};
+ghost use Rattle.rows.specs.declared.Kind.the-variants.{Lines};
+ghost use Rattle.day.specs.Day.{linesPart};
 ghost use Rattle.parts.specs.Of.{OfDay};
 ghost use Rattle.clearing.specs.Clearing.{flowsPart, volumesPart, takenPart};
 ghost use Rattle.book.specs.Of.{OfClearing};
@@ -134,14 +137,22 @@ pub fn line_of(day: &[u8], counts: Counts, line: usize) -> Line
     )
 }
 
+// A capacity of a line: the forward capacities start 2 bytes into its row, the back capacities 6.
+fn capacity_of(day: &[u8], counts: Counts, line: usize, first: usize, period: usize) -> u32
+    requires { ⌜ (OfDay (now day) counts) × ((line < counts .lines) × ((period < counts .periods) × (first ≤ 6))) ⌝ }
+    ensures { λ r. ⌜ r ≡ u32At (linesPart (now (day .entry))) (rowStart Lines (counts .periods) line + first + 8 * period) ⌝ }
+{
+    wire::u32_at(
+        parts::lines_part(day, counts),
+        row_start(Kind::Lines, counts.periods, line) + first + 8 * period,
+    )
+}
+
 pub fn forward_of(day: &[u8], counts: Counts, line: usize, period: usize) -> i64
     requires { ⌜ (OfDay (now day) counts) × ((line < counts .lines) × (period < counts .periods)) ⌝ }
     ensures { λ r. ⌜ r ≡ forwardOf counts (now (day .entry)) line period ⌝ }
 {
-    market::wide(wire::u32_at(
-        parts::lines_part(day, counts),
-        row_start(Kind::Lines, counts.periods, line) + 2 + 8 * period,
-    ))
+    market::wide(capacity_of(day, counts, line, 2, period))
 }
 
 // Minus the back capacity: the least flow.
@@ -149,10 +160,7 @@ pub fn least_flow_of(day: &[u8], counts: Counts, line: usize, period: usize) -> 
     requires { ⌜ (OfDay (now day) counts) × ((line < counts .lines) × (period < counts .periods)) ⌝ }
     ensures { λ r. ⌜ r ≡ negℤ (backOf counts (now (day .entry)) line period) ⌝ }
 {
-    minus(wire::u32_at(
-        parts::lines_part(day, counts),
-        row_start(Kind::Lines, counts.periods, line) + 6 + 8 * period,
-    ))
+    minus(capacity_of(day, counts, line, 6, period))
 }
 
 pub fn step_of(day: &[u8], counts: Counts, i: usize) -> Step

@@ -1,7 +1,7 @@
 -- `market::rent` meets its contract. Assumes nothing.
 use Prim.Native.Nat.{_≤_}
 use native.Mathlib.Omega.{arith}
-use mathlib.Core.Path.{_≡_}
+use mathlib.Core.Path.{_≡_, sym, subst, ap, _∙_}
 use lib.IntN.{ℤ, natAbs, _-ℤ_, _*ℤ_}
 use mir.Syntax.{w64}
 use mir.Val.{SFits, toZ, ofZ}
@@ -38,10 +38,10 @@ product-fits : (c : tie.Start) → SFits w64 (c .args .flow *ℤ (c .args .to -�
 product-fits c = rent-fits (c .args .to) (c .args .from) (c .pre .1 .0) (c .pre .1 .1) (c .args .flow) (c .pre .0)
 
 mul-result : tie.Need-mul-result
-mul-result c = rw (values c) (product-fits c)
+mul-result c = subst (SFits w64) (sym (values c)) (product-fits c)
 
 returns : tie.Need-returns
-returns c = rw (values c) (toZ-ofZ w64 _ (product-fits c))
+returns c = ap (λ (z : ℤ). toZ w64 (ofZ w64 z)) (values c) ∙ toZ-ofZ w64 _ (product-fits c)
 
 pub rent-spec : {M : Type 1} → statement M
 rent-spec = tie.close (tie.spec sub-result mul-result returns)
