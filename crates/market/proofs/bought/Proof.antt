@@ -1,7 +1,6 @@
 -- `market::bought` meets its contract. Assumes nothing.
 use mathlib.Core.Path.{_∙_}
 use lib.IntN.{pos}
-use mir.Syntax.{w64}
 use Rattle.whole.specs.Size.{same}
 use borrow.Author.Needs.{needs}
 use Rattle.market.proofs.Gains.{gained, zero-fits}

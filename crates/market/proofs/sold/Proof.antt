@@ -1,5 +1,4 @@
 -- `market::sold` meets its contract. Assumes nothing.
-use mir.Syntax.{w64}
 use mathlib.Core.Path.{_∙_}
 use lib.IntN.{pos}
 use Rattle.whole.specs.Size.{same}
