@@ -8,7 +8,7 @@ use mathlib.Core.Logic.{inr, ⊎-elim}
 use mathlib.Core.List.{List, [], _∷_, _++_, append-nil, append-assoc}
 use lib.IntN.{ℤ}
 use lib.ListN.{getD, length, take, drop, length-append, take-append-drop}
-use lib.Seq.{take-at, drop-at}
+use lib.Seq.{take-at, drop-at, drop-length}
 use mir.Syntax.{w32, w64}
 use mir.Val.{SFits}
 use Rattle.wire.specs.Bytes.{u16At, i32At, i64At, bits32, bits64, bytes16, bytes32, bytes64, put}
@@ -117,6 +117,10 @@ statement-stored t net n room h =
 pub stored-is : (t : Totals) (net : ℕ → ℤ) (n : ℕ) (room : List ℕ) →
     put room 0 (statement t net n) ≡ statement t net n ++ drop (statementLength n) room
 stored-is t net n room = rw (statement-length t net n, zero-add)
+
+-- in a room of just its length, the statement alone
+pub fills : (t : Totals) (net : ℕ → ℤ) (n : ℕ) (room : List ℕ) → length room ≡ statementLength n → put room 0 (statement t net n) ≡ statement t net n
+fills t net n room e = stored-is t net n room ∙ rw (← e, drop-length, append-nil)
 
 pub stays-behind : (t : Totals) (net : ℕ → ℤ) (n : ℕ) (room : List ℕ) → statementLength n ≤ length room →
     (i : ℕ) → statementLength n ≤ i → getD (put room 0 (statement t net n)) i 0 ≡ getD room i 0

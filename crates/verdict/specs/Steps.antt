@@ -2,7 +2,8 @@
 use Prim.Native.Nat.{ℕ, _≤_, _<_}
 use mathlib.Core.Path.{_≡_, sym, ap, subst, _∙_}
 use mathlib.Core.List.{List, [], _∷_, _++_}
-use lib.ListN.{drop}
+use lib.ListN.{length, take, drop}
+use lib.Seq.{length-take-le}
 use borrow.Author.Tests.{le-leb, lt-leb}
 use Rattle.stages.specs.Stage.{Stage, place, firstFault, answer, fault-++, means}
 use Rattle.stages.specs.declared.Fault.{Fault}
@@ -23,7 +24,7 @@ use Rattle.book.specs.Of.{OfClearing, OfFiles}
 use Rattle.totals.specs.Sums as sums
 use Rattle.rules.specs.Judge as rules
 use Rattle.statement.specs.Statement.{statement, statementLength}
-use Rattle.statement.specs.Laws.{stored-is}
+use Rattle.statement.specs.Laws.{fills}
 use Rattle.statement.specs.Of.{netCount, netRow}
 use Rattle.verdict.specs.Verdict.{dayOf, pricesOf, choiceOf, totalsOf, statementOf, statementLengthOf, roomStage, stages, verdict}
 use Rattle.verdict.specs.declared.Outcome.{Outcome}
@@ -105,10 +106,13 @@ module _ {day clearing : List ℕ} {c : Counts} (o : OfFiles day clearing c) whe
       in-hand (λ (k : Counts). statementLength (netCount k) ≤ room → t ≡ sums.totals k day clearing → Accepted t ≡ fromRoom day clearing room)
       (λ l e. rw (le-leb (statementLengthOf day) room l) (ap Accepted e)) l e
 
-  pub left-in : (room : List ℕ) {t : Totals} → t ≡ sums.totals c day clearing →
-      put room 0 (statement t (netRow c day clearing) (netCount c)) ≡ statementOf day clearing ++ drop (statementLengthOf day) room
-  left-in room {t} e =
-      ap (λ (u : Totals). put room 0 (statement u (netRow c day clearing) (netCount c))) e
-      ∙ in-hand (λ (k : Counts). put room 0 (statement (sums.totals k day clearing) (netRow k day clearing) (netCount k))
-      ≡ statementOf day clearing ++ drop (statementLengthOf day) room)
-      (stored-is (totalsOf day clearing) (netRow (counts day) day clearing) (netCount (counts day)) room)
+  -- the statement fills the part that is lent for it, and the bytes behind the part are as they were
+  pub left-in : (room part : List ℕ) (n : ℕ) {t : Totals} → n ≡ statementLength (netCount c) → n ≤ length room → t ≡ sums.totals c day clearing →
+      part ≡ put (take n room) 0 (statement t (netRow c day clearing) (netCount c)) →
+      part ++ drop n room ≡ statementOf day clearing ++ drop (statementLengthOf day) room
+  left-in room part n {t} m l e q =
+      in-hand (λ (k : Counts). n ≡ statementLength (netCount k) → t ≡ sums.totals k day clearing →
+      part ≡ statement t (netRow k day clearing) (netCount k) →
+      part ++ drop n room ≡ statementOf day clearing ++ drop (statementLengthOf day) room)
+      (λ m e q. rw (q, e, m)) m e
+      (q ∙ fills t (netRow c day clearing) (netCount c) (take n room) (length-take-le n room l ∙ m))

@@ -23,7 +23,8 @@ fn from_room(day: &[u8], clearing: &[u8], counts: Counts, room: &mut [u8]) -> Ou
     ensures said { λ r. ⌜ r ≡ fromRoom (now (day .entry)) (now (clearing .entry)) (length (now (room .entry))) ⌝ }
     ensures left { λ r. ⌜ now (room .exit) ≡ leaves (now (day .entry)) (now (clearing .entry)) r (now (room .entry)) ⌝ }
 {
-    if room.len() < statement::statement_length(counts) {
+    let n = statement::statement_length(counts);
+    if room.len() < n {
         return Outcome::Refused(
             18,
             Place {
@@ -33,7 +34,7 @@ fn from_room(day: &[u8], clearing: &[u8], counts: Counts, room: &mut [u8]) -> Ou
         );
     }
     let totals = totals::totals_of(day, clearing, counts);
-    statement::put_statement(room, day, clearing, counts, totals);
+    statement::put_statement(&mut room[0..n], day, clearing, counts, totals);
     Outcome::Accepted(totals)
 }
 

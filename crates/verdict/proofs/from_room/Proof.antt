@@ -1,8 +1,11 @@
 -- `verdict::from_room` meets its contract. Assumes nothing.
-use mathlib.Core.Path.{refl, _∙_}
+use Prim.Native.Nat.{_-_}
+use mathlib.Core.Path.{refl}
+use native.Mathlib.Omega.{arith}
+use lib.Seq.{length-take-le}
 use denote.Ref.{now}
-use Rattle.verdict.specs.Steps.{too-short, long-enough, left-in}
 use borrow.Author.Needs.{needs}
+use Rattle.verdict.specs.Steps.{too-short, long-enough, left-in}
 use Rattle.verdict.proofs.from_room.Statement.{statement}
 use Rattle.verdict.proofs.from_room.Tie as tie
 
@@ -17,11 +20,21 @@ returns c =
 totals-of-requires : tie.Need-totals-of-requires
 totals-of-requires c κs = search needs
 
+sub-put-statement : tie.Need-sub-put-statement
+sub-put-statement c = search needs
+
+part-put-statement-start : tie.Need-part-put-statement-start
+part-put-statement-start c = search needs
+
+part-put-statement-end : tie.Need-part-put-statement-end
+part-put-statement-end c = search needs
+
 put-statement-requires : tie.Need-put-statement-requires
 put-statement-requires c κs =
     let else = c .before .before in
     let s = c .before .before .before .before .before .before .before in
-    ((s .pre .of-files, rw (else .before .statement-length .ensures) at (else .if1 .left)), s .pre .lawful .balance-rule)
+    let lent = length-take-le _ (now (s .args .room)) (else .if1 .left) in
+    ((s .pre .of-files, omega (arith, lent, else .before .statement-length .ensures)), s .pre .lawful .balance-rule)
 
 same-length : tie.Need-same-length
 same-length c = search needs
@@ -31,9 +44,11 @@ returns-2 c =
     let totals = c .before .before .before .before in
     let else = totals .before in
     let s = c .before .before .before .before .before .before .before .before .before .before in
-    let o = s .pre .of-files in (
-      long-enough o _ (rw (else .before .statement-length .ensures) at (else .if1 .left)) (totals .totals-of .ensures),
-      c .before .before .put-statement .ensures ∙ left-in o (now (s .args .room)) (totals .totals-of .ensures),
+    let o = s .pre .of-files in
+    let n = else .before .statement-length in (
+      long-enough o _ (rw (n .ensures) at (else .if1 .left)) (totals .totals-of .ensures),
+      left-in o (now (s .args .room)) _ (n .result - 0) (omega (arith, n .ensures)) (omega (arith, else .if1 .left)) (totals .totals-of .ensures)
+      (c .before .before .put-statement .ensures),
     )
 
 pub from-room-spec : {M : Type 1} → statement M
@@ -43,6 +58,9 @@ from-room-spec =
     statement-length-requires
     returns
     totals-of-requires
+    sub-put-statement
+    part-put-statement-start
+    part-put-statement-end
     put-statement-requires
     same-length
     returns-2)
