@@ -1,4 +1,4 @@
-"""Independent judge of a clearing, written from the rule paper alone.
+"""Independent judge of a clearing, written from the rule paper.
 
 judge(day, clearing, room) ->
     (number, first, second, totals | None, nets | None, statement | None)

@@ -9,7 +9,8 @@ use Rattle.rows.specs.Rows.{rowSize, rowStart}
 use Rattle.rows.specs.declared.Kind.{Kind}
 use Rattle.rows.specs.declared.Kind.the-variants.{Prices, Flows, Volumes, Taken}
 use Rattle.day.specs.declared.Counts.{Counts}
-use Rattle.day.specs.Good.{InLimits, prices-most, flows-most}
+use Rattle.day.specs.Day.{counts}
+use Rattle.day.specs.Good.{GoodDay, InLimits, in-limits, prices-most, flows-most}
 use Rattle.clearing.specs.Clearing.{flowsPart, volumesPart, takenPart}
 use Rattle.clearing.specs.Good.{GoodClearing, Asked, asked-is}
 use Rattle.parts.specs.Of.{OfDay, Sized}
@@ -23,6 +24,13 @@ pub record OfClearing (clearing : List ℕ) (c : Counts) : Type 0 where
 pub record OfFiles (day clearing : List ℕ) (c : Counts) : Type 0 where
   pub of-day : OfDay day c
   pub of-clearing : OfClearing clearing c
+
+-- by the day file's own counts
+pub of-files : {day clearing : List ℕ} → GoodDay day → GoodClearing (counts day) clearing → OfFiles day clearing (counts day)
+of-files d c = record {
+  of-day = record { good = d; counted = refl };
+  of-clearing = record { cleared = c; limits = in-limits d };
+}
 
 -- ---- the rows of a section, and the cells of a table
 

@@ -64,11 +64,11 @@ fn taken_part<'a>(clearing: &'a [u8], counts: Counts) -> &'a [u8]
 // ---- the rows of a part: `at` is the place at which the row starts
 
 // Where the row i starts: behind the count and the rows before it.
-fn row_start(kind: Kind, periods: usize, i: usize) -> usize
-    requires { ⌜ (periods ≤ mostPeriods) × (i < 65536) ⌝ }
-    ensures { λ r. ⌜ (r ≡ rowStart kind periods i) × (r < 4294967296) ⌝ }
+fn row_start(kind: Kind, periods: usize, row: usize) -> usize
+    requires { ⌜ (periods ≤ mostPeriods) × (row < 65536) ⌝ }
+    ensures { λ r. ⌜ (r ≡ rowStart kind periods row) × (r < 4294967296) ⌝ }
 {
-    2 + rows::row_size(kind, periods) * i
+    2 + rows::row_size(kind, periods) * row
 }
 
 fn side_of(n: usize) -> Side
@@ -163,30 +163,30 @@ pub fn least_flow_of(day: &[u8], counts: Counts, line: usize, period: usize) -> 
     minus(capacity_of(day, counts, line, 6, period))
 }
 
-pub fn step_of(day: &[u8], counts: Counts, i: usize) -> Step
-    requires { ⌜ (OfDay (now day) counts) × (i < counts .steps) ⌝ }
-    ensures { λ r. ⌜ r ≡ stepOf (now (day .entry)) i ⌝ }
+pub fn step_of(day: &[u8], counts: Counts, row: usize) -> Step
+    requires { ⌜ (OfDay (now day) counts) × (row < counts .steps) ⌝ }
+    ensures { λ r. ⌜ r ≡ stepOf (now (day .entry)) row ⌝ }
 {
-    step_at(parts::steps_part(day, counts), 2 + 12 * i)
+    step_at(parts::steps_part(day, counts), 2 + 12 * row)
 }
 
-pub fn block_of(day: &[u8], counts: Counts, k: usize) -> Block
-    requires { ⌜ (OfDay (now day) counts) × (k < counts .blocks) ⌝ }
-    ensures { λ r. ⌜ r ≡ blockOf counts (now (day .entry)) k ⌝ }
+pub fn block_of(day: &[u8], counts: Counts, row: usize) -> Block
+    requires { ⌜ (OfDay (now day) counts) × (row < counts .blocks) ⌝ }
+    ensures { λ r. ⌜ r ≡ blockOf counts (now (day .entry)) row ⌝ }
 {
     block_at(
         parts::blocks_part(day, counts),
-        row_start(Kind::Blocks, counts.periods, k),
+        row_start(Kind::Blocks, counts.periods, row),
     )
 }
 
-pub fn quantity_of(day: &[u8], counts: Counts, k: usize, period: usize) -> u32
-    requires { ⌜ (OfDay (now day) counts) × ((k < counts .blocks) × (period < counts .periods)) ⌝ }
-    ensures { λ r. ⌜ r ≡ quantityOf counts (now (day .entry)) k period ⌝ }
+pub fn quantity_of(day: &[u8], counts: Counts, row: usize, period: usize) -> u32
+    requires { ⌜ (OfDay (now day) counts) × ((row < counts .blocks) × (period < counts .periods)) ⌝ }
+    ensures { λ r. ⌜ r ≡ quantityOf counts (now (day .entry)) row period ⌝ }
 {
     wire::u32_at(
         parts::blocks_part(day, counts),
-        row_start(Kind::Blocks, counts.periods, k) + 8 + 4 * period,
+        row_start(Kind::Blocks, counts.periods, row) + 8 + 4 * period,
     )
 }
 
@@ -209,16 +209,16 @@ pub fn flow_of(clearing: &[u8], counts: Counts, line: usize, period: usize) -> i
     )
 }
 
-pub fn volume_of(clearing: &[u8], counts: Counts, i: usize) -> u32
-    requires { ⌜ (OfClearing (now clearing) counts) × (i < counts .steps) ⌝ }
-    ensures { λ r. ⌜ r ≡ volumeOf (now (clearing .entry)) i ⌝ }
+pub fn volume_of(clearing: &[u8], counts: Counts, row: usize) -> u32
+    requires { ⌜ (OfClearing (now clearing) counts) × (row < counts .steps) ⌝ }
+    ensures { λ r. ⌜ r ≡ volumeOf (now (clearing .entry)) row ⌝ }
 {
-    wire::u32_at(volumes_part(clearing, counts), 2 + 4 * i)
+    wire::u32_at(volumes_part(clearing, counts), 2 + 4 * row)
 }
 
-pub fn taken_of(clearing: &[u8], counts: Counts, k: usize) -> bool
-    requires { ⌜ (OfClearing (now clearing) counts) × (k < counts .blocks) ⌝ }
-    ensures { λ r. ⌜ r ≡ takenOf (now (clearing .entry)) k ⌝ }
+pub fn taken_of(clearing: &[u8], counts: Counts, row: usize) -> bool
+    requires { ⌜ (OfClearing (now clearing) counts) × (row < counts .blocks) ⌝ }
+    ensures { λ r. ⌜ r ≡ takenOf (now (clearing .entry)) row ⌝ }
 {
-    wire::u8_at(taken_part(clearing, counts), 2 + k) == 1
+    wire::u8_at(taken_part(clearing, counts), 2 + row) == 1
 }

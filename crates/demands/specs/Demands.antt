@@ -19,15 +19,15 @@ use Rattle.market.specs.declared.Rule.{Rule}
 use Rattle.market.specs.declared.Totals.{Totals}
 use Rattle.day.specs.Day.{counts}
 use Rattle.day.specs.Good.{GoodDay, in-limits, prices-most}
-use Rattle.book.specs.Of.{OfFiles}
+use Rattle.book.specs.Of.{OfFiles, of-files}
 use Rattle.book.specs.Ranges.{placed}
 use Rattle.verdict.specs.Verdict.{totalsOf, statementOf, statementLengthOf}
-use Rattle.verdict.specs.Verdict.{stages, leaves, Checked, numberOf, givenTotals, zeros}
+use Rattle.verdict.specs.Verdict.{stages, leaves, Checked, numberOf, placeOf, givenTotals, zeros}
 use Rattle.verdict.specs.declared.Outcome.{Outcome}
 use Rattle.verdict.specs.declared.Outcome.the-variants.{Accepted, Refused}
 use Rattle.demands.specs.Sentences.{Passes, FirstBreach, TooShort, Stated}
 use Rattle.demands.specs.Refusals as refusals
-use Rattle.demands.specs.Laws.{passes-exactly, refused-is-broken, of-files, behind-stays, length-stays}
+use Rattle.demands.specs.Laws.{passes-exactly, refused-is-broken, behind-stays, length-stays}
 use Rattle.demands.specs.Laws.{six-stated, value-stated, buyers-stated, sellers-stated, rent-stated, traded-stated, shortfall-stated}
 use Rattle.demands.specs.Laws.{count-stated, net-stated}
 
@@ -50,6 +50,9 @@ module _ {day clearing before : List ℕ} {outcome : Outcome} {after : List ℕ}
 
   pub zero-is-accepted : numberOf outcome ≡ 0 → outcome ≡ Accepted (totalsOf day clearing)
   zero-is-accepted e = c .said ∙ refusals.zero-is-accepted day clearing (length before) (ap numberOf (sym (c .said)) ∙ e)
+
+  pub accepted-is-zero : {t : Totals} → outcome ≡ Accepted t → (numberOf outcome ≡ 0) × (placeOf outcome ≡ place 0 0)
+  accepted-is-zero e = (ap numberOf e, ap placeOf e)
 
   -- ==== Demand 2. Accepted exactly when every rule of the rule paper holds and the room is long enough; else the first broken rule at
   -- its first place. Totals and net positions are the defined ones.

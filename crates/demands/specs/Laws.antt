@@ -30,9 +30,9 @@ use Rattle.market.specs.declared.Totals.{Totals}
 use Rattle.market.specs.declared.Measure.{Measure}
 use Rattle.market.specs.declared.Measure.the-variants.{Value, Buyers, Sellers, Traded}
 use Rattle.day.specs.Day.{counts}
-use Rattle.day.specs.Good.{GoodDay, in-limits, prices-most}
+use Rattle.day.specs.Good.{prices-most}
 use Rattle.clearing.specs.Clearing.{fileStages}
-use Rattle.clearing.specs.Good.{GoodClearing, files-clean}
+use Rattle.clearing.specs.Good.{files-clean}
 use Rattle.book.specs.Of.{OfFiles, cell-below}
 use Rattle.book.specs.Ranges.{placed, ranged}
 use Rattle.statement.specs.Laws.{statement-length, stored-is, stays-behind, value-read, buyers-read, sellers-read, rent-read, traded-read}
@@ -96,12 +96,6 @@ module _ (day clearing : List ℕ) (room : ℕ) where
       (λ e. (passes-is .0 (a .0 e .0), a .0 e .1), λ h. a .1 (passes-is .1 (h .0), h .1))
 
 -- ---- two files that read without fault
-
-pub of-files : {day clearing : List ℕ} → GoodDay day → GoodClearing (counts day) clearing → OfFiles day clearing (counts day)
-of-files d c = record {
-  of-day = record { good = d; counted = refl };
-  of-clearing = record { cleared = c; limits = in-limits d };
-}
 
 module _ {day clearing : List ℕ} (o : OfFiles day clearing (counts day)) where
   abbrev d : Day

@@ -15,13 +15,12 @@ use Rattle.market.specs.Rules.{number, ruleStage, ruleStages}
 use Rattle.market.specs.RuleLaws.{test-is, breach, rule-holds, lawful-is}
 use Rattle.market.specs.declared.Rule.{Rule}
 use Rattle.market.specs.declared.Rule.the-variants.{Price, Capacity, Quantity, Balance, Step, Line, Block}
-use Rattle.market.specs.declared.Totals.{Totals}
 use Rattle.day.specs.declared.Counts.{Counts}
 use Rattle.day.specs.Day.{counts, dayStages}
 use Rattle.day.specs.Good.{GoodDay}
 use Rattle.clearing.specs.Clearing.{clearingStages, fileStages}
 use Rattle.clearing.specs.Good.{GoodClearing, files-clean}
-use Rattle.verdict.specs.Verdict.{dayOf, pricesOf, choiceOf, totalsOf, statementLengthOf, roomStage, stages, verdict, numberOf, placeOf}
+use Rattle.verdict.specs.Verdict.{dayOf, pricesOf, choiceOf, totalsOf, statementLengthOf, roomStage, stages, verdict, numberOf}
 use Rattle.verdict.specs.declared.Outcome.the-variants.{Accepted, Refused}
 use Rattle.demands.specs.Sentences.{FirstBreach, TooShort}
 use Rattle.demands.specs.Laws.{refused-is-broken}
@@ -164,7 +163,7 @@ module _ (day clearing : List ℕ) (room : ℕ) where
   pub refusal-number : (k : ℕ) (p : Place) → verdict day clearing room ≡ Refused k p → ((1 ≤ k) × (k ≤ 8)) ⊎ ((11 ≤ k) × (k ≤ 18))
   refusal-number k p e = broken-number k p (refused-is-broken day clearing room k p .0 e)
 
-  -- The number 0 says that the files are accepted, with their totals; an acceptance has the number 0 and the place 0, 0.
+  -- The number 0 says that the files are accepted, with their totals.
   pub zero-is-accepted : numberOf (verdict day clearing room) ≡ 0 → verdict day clearing room ≡ Accepted (totalsOf day clearing)
   zero-is-accepted = by (firstFault (stages day clearing room)) refl
     where
@@ -174,10 +173,6 @@ module _ (day clearing : List ℕ) (room : ℕ) where
       by (Broken k p) e z =
           let n = broken-number k p (means (stages day clearing room) (Broken k p) .0 e) in
           absurd (⊎-elim (λ l. omega (arith, l .0, z)) (λ l. omega (arith, l .0, z)) n)
-
-  pub accepted-is-zero : (t : Totals) → verdict day clearing room ≡ Accepted t →
-      (numberOf (verdict day clearing room) ≡ 0) × (placeOf (verdict day clearing room) ≡ place 0 0)
-  accepted-is-zero t e = (ap numberOf e, ap placeOf e)
 
   -- a number beyond 8: both files read without fault, and the fault comes after them
   past-files : (k : ℕ) (p : Place) → 8 < k →

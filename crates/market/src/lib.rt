@@ -140,53 +140,53 @@ fn negative(volume: i64) -> i64
     -volume
 }
 
-fn volume_at(t: Trade, zone: usize, period: usize) -> i64
-    requires { ⌜ t .volume ≤ mostVolume ⌝ }
-    ensures { λ r. ⌜ (r ≡ volumeAt zone period t) × (natAbs r ≤ mostVolume) ⌝ }
+fn volume_at(trade: Trade, zone: usize, period: usize) -> i64
+    requires { ⌜ trade .volume ≤ mostVolume ⌝ }
+    ensures { λ r. ⌜ (r ≡ volumeAt zone period trade) × (natAbs r ≤ mostVolume) ⌝ }
 {
-    if (zone == t.zone) & (period == t.period) {
-        wide(t.volume)
+    if (zone == trade.zone) & (period == trade.period) {
+        wide(trade.volume)
     } else {
         0
     }
 }
 
-fn sold(m: Measure, t: Trade, price: i64) -> i64
-    requires { ⌜ Small t price ⌝ }
-    ensures { λ r. ⌜ r ≡ sold m price t ⌝ }
+fn sold(measure: Measure, trade: Trade, price: i64) -> i64
+    requires { ⌜ Small trade price ⌝ }
+    ensures { λ r. ⌜ r ≡ sold measure price trade ⌝ }
 {
-    match m {
-        Measure::Value => gain(0, t.limit, t.volume),
+    match measure {
+        Measure::Value => gain(0, trade.limit, trade.volume),
         Measure::Buyers => 0,
-        Measure::Sellers => gain(price, t.limit, t.volume),
+        Measure::Sellers => gain(price, trade.limit, trade.volume),
         Measure::Traded => 0,
-        Measure::Surplus => gain(price, t.limit, t.volume),
-        Measure::Net(zone, period) => volume_at(t, zone, period),
+        Measure::Surplus => gain(price, trade.limit, trade.volume),
+        Measure::Net(zone, period) => volume_at(trade, zone, period),
     }
 }
 
-fn bought(m: Measure, t: Trade, price: i64) -> i64
-    requires { ⌜ Small t price ⌝ }
-    ensures { λ r. ⌜ r ≡ bought m price t ⌝ }
+fn bought(measure: Measure, trade: Trade, price: i64) -> i64
+    requires { ⌜ Small trade price ⌝ }
+    ensures { λ r. ⌜ r ≡ bought measure price trade ⌝ }
 {
-    match m {
-        Measure::Value => gain(t.limit, 0, t.volume),
-        Measure::Buyers => gain(t.limit, price, t.volume),
+    match measure {
+        Measure::Value => gain(trade.limit, 0, trade.volume),
+        Measure::Buyers => gain(trade.limit, price, trade.volume),
         Measure::Sellers => 0,
-        Measure::Traded => wide(t.volume),
-        Measure::Surplus => gain(t.limit, price, t.volume),
-        Measure::Net(zone, period) => negative(volume_at(t, zone, period)),
+        Measure::Traded => wide(trade.volume),
+        Measure::Surplus => gain(trade.limit, price, trade.volume),
+        Measure::Net(zone, period) => negative(volume_at(trade, zone, period)),
     }
 }
 
-pub fn measured(m: Measure, t: Trade, price: i64) -> i64
-    requires { ⌜ Small t price ⌝ }
-    ensures { λ r. ⌜ r ≡ measured m price t ⌝ }
+pub fn measured(measure: Measure, trade: Trade, price: i64) -> i64
+    requires { ⌜ Small trade price ⌝ }
+    ensures { λ r. ⌜ r ≡ measured measure price trade ⌝ }
 {
-    let side = t.side;
+    let side = trade.side;
     match side {
-        Side::Sell => sold(m, t, price),
-        Side::Buy => bought(m, t, price),
+        Side::Sell => sold(measure, trade, price),
+        Side::Buy => bought(measure, trade, price),
     }
 }
 

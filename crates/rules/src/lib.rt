@@ -38,12 +38,12 @@ fn capacity_holds(day: &[u8], clearing: &[u8], counts: Counts, line: usize, peri
     )
 }
 
-fn quantity_holds(day: &[u8], clearing: &[u8], counts: Counts, i: usize) -> bool
-    requires { ⌜ (OfFiles (now day) (now clearing) counts) × (i < counts .steps) ⌝ }
-    ensures { λ r. ⌜ r ≡ test counts (now (day .entry)) (now (clearing .entry)) Quantity i 0 ⌝ }
+fn quantity_holds(day: &[u8], clearing: &[u8], counts: Counts, row: usize) -> bool
+    requires { ⌜ (OfFiles (now day) (now clearing) counts) × (row < counts .steps) ⌝ }
+    ensures { λ r. ⌜ r ≡ test counts (now (day .entry)) (now (clearing .entry)) Quantity row 0 ⌝ }
 {
-    let step = book::step_of(day, counts, i);
-    book::volume_of(clearing, counts, i) <= step.quantity
+    let step = book::step_of(day, counts, row);
+    book::volume_of(clearing, counts, row) <= step.quantity
 }
 
 fn balance_holds(day: &[u8], clearing: &[u8], counts: Counts, zone: usize, period: usize) -> bool
@@ -56,18 +56,18 @@ fn balance_holds(day: &[u8], clearing: &[u8], counts: Counts, zone: usize, perio
     )
 }
 
-fn step_holds(day: &[u8], clearing: &[u8], counts: Counts, i: usize) -> bool
-    requires { ⌜ (OfFiles (now day) (now clearing) counts) × (i < counts .steps) ⌝ }
-    ensures { λ r. ⌜ r ≡ test counts (now (day .entry)) (now (clearing .entry)) Step i 0 ⌝ }
+fn step_holds(day: &[u8], clearing: &[u8], counts: Counts, row: usize) -> bool
+    requires { ⌜ (OfFiles (now day) (now clearing) counts) × (row < counts .steps) ⌝ }
+    ensures { λ r. ⌜ r ≡ test counts (now (day .entry)) (now (clearing .entry)) Step row 0 ⌝ }
 {
-    let step = book::step_of(day, counts, i);
+    let step = book::step_of(day, counts, row);
     let side = step.side;
     market::step_ok(
         side,
         step.limit,
         step.quantity,
         book::price_of(clearing, counts, step.zone, step.period),
-        book::volume_of(clearing, counts, i),
+        book::volume_of(clearing, counts, row),
     )
 }
 
@@ -85,13 +85,13 @@ fn line_holds(day: &[u8], clearing: &[u8], counts: Counts, line: usize, period: 
     )
 }
 
-fn block_holds(day: &[u8], clearing: &[u8], counts: Counts, k: usize) -> bool
-    requires { ⌜ (OfFiles (now day) (now clearing) counts) × (k < counts .blocks) ⌝ }
-    ensures { λ r. ⌜ r ≡ test counts (now (day .entry)) (now (clearing .entry)) Block k 0 ⌝ }
+fn block_holds(day: &[u8], clearing: &[u8], counts: Counts, row: usize) -> bool
+    requires { ⌜ (OfFiles (now day) (now clearing) counts) × (row < counts .blocks) ⌝ }
+    ensures { λ r. ⌜ r ≡ test counts (now (day .entry)) (now (clearing .entry)) Block row 0 ⌝ }
 {
     market::block_ok(
-        book::taken_of(clearing, counts, k),
-        totals::whole_surplus(day, clearing, counts, k),
+        book::taken_of(clearing, counts, row),
+        totals::whole_surplus(day, clearing, counts, row),
     )
 }
 

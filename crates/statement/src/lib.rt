@@ -12,18 +12,18 @@ ghost use Rattle.book.specs.Of.{OfFiles};
 ghost use Rattle.statement.specs.Statement.{head, nets, statement, statementLength};
 ghost use Rattle.statement.specs.Of.{netCount, flowRow, netRow, Balanced};
 
-fn put_head(room: &mut [u8], t: Totals, n: u16)
+fn put_head(room: &mut [u8], totals: Totals, count: u16)
     requires { ⌜ 52 ≤ length (now room) ⌝ }
-    ensures { λ r. ⌜ now (room .exit) ≡ put (now (room .entry)) 0 (head t n) ⌝ }
+    ensures { λ r. ⌜ now (room .exit) ≡ put (now (room .entry)) 0 (head totals count) ⌝ }
 {
     wire::put_u16(room, 0, 6);
-    wire::put_i64(room, 2, t.value);
-    wire::put_i64(room, 10, t.buyers);
-    wire::put_i64(room, 18, t.sellers);
-    wire::put_i64(room, 26, t.rent);
-    wire::put_i64(room, 34, t.traded);
-    wire::put_i64(room, 42, t.shortfall);
-    wire::put_u16(room, 50, n);
+    wire::put_i64(room, 2, totals.value);
+    wire::put_i64(room, 10, totals.buyers);
+    wire::put_i64(room, 18, totals.sellers);
+    wire::put_i64(room, 26, totals.rent);
+    wire::put_i64(room, 34, totals.traded);
+    wire::put_i64(room, 42, totals.shortfall);
+    wire::put_u16(room, 50, count);
 }
 
 fn narrow(v: i64) -> i32
@@ -33,11 +33,11 @@ fn narrow(v: i64) -> i32
     v as i32
 }
 
-fn put_net(room: &mut [u8], at: usize, v: i64)
-    requires { ⌜ (at + 4 ≤ length (now room)) × (SFits w32 v) ⌝ }
-    ensures { λ r. ⌜ now (room .exit) ≡ put (now (room .entry)) at (bytes32 (bits32 v)) ⌝ }
+fn put_net(room: &mut [u8], at: usize, net: i64)
+    requires { ⌜ (at + 4 ≤ length (now room)) × (SFits w32 net) ⌝ }
+    ensures { λ r. ⌜ now (room .exit) ≡ put (now (room .entry)) at (bytes32 (bits32 net)) ⌝ }
 {
-    wire::put_i32(room, at, narrow(v));
+    wire::put_i32(room, at, narrow(net));
 }
 
 // How long the statement of a day is.
@@ -72,11 +72,11 @@ fn count_of(counts: Counts) -> u16
     (counts.zones * counts.periods) as u16
 }
 
-pub fn put_statement(room: &mut [u8], day: &[u8], clearing: &[u8], counts: Counts, t: Totals)
+pub fn put_statement(room: &mut [u8], day: &[u8], clearing: &[u8], counts: Counts, totals: Totals)
     requires { ⌜ (OfFiles (now day) (now clearing) counts) × (statementLength (netCount counts) ≤ length (now room)) ⌝ }
     requires { ⌜ Balanced counts (now day) (now clearing) ⌝ }
-    ensures { λ r. ⌜ now (room .exit) ≡ put (now (room .entry)) 0 (statement t (netRow counts (now (day .entry)) (now (clearing .entry))) (netCount counts)) ⌝ }
+    ensures { λ r. ⌜ now (room .exit) ≡ put (now (room .entry)) 0 (statement totals (netRow counts (now (day .entry)) (now (clearing .entry))) (netCount counts)) ⌝ }
 {
-    put_head(room, t, count_of(counts));
+    put_head(room, totals, count_of(counts));
     put_nets(room, day, clearing, counts);
 }

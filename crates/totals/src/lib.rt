@@ -15,43 +15,52 @@ ghost use Rattle.totals.specs.Sums as sums;
 
 // ---- the steps
 
-fn step_trade(day: &[u8], clearing: &[u8], counts: Counts, i: usize) -> Trade
-    requires { ⌜ (OfFiles (now day) (now clearing) counts) × (i < counts .steps) ⌝ }
-    ensures { λ r. ⌜ r ≡ sums.stepTrade (now (day .entry)) (now (clearing .entry)) i ⌝ }
+fn step_trade(day: &[u8], clearing: &[u8], counts: Counts, row: usize) -> Trade
+    requires { ⌜ (OfFiles (now day) (now clearing) counts) × (row < counts .steps) ⌝ }
+    ensures { λ r. ⌜ r ≡ sums.stepTrade (now (day .entry)) (now (clearing .entry)) row ⌝ }
 {
-    let step = book::step_of(day, counts, i);
+    let step = book::step_of(day, counts, row);
     let side = step.side;
     Trade {
         zone: step.zone,
         period: step.period,
         side,
         limit: step.limit,
-        volume: book::volume_of(clearing, counts, i),
+        volume: book::volume_of(clearing, counts, row),
     }
 }
 
 // What a trade counts at the price of its zone and period.
-fn priced(m: Measure, t: Trade, clearing: &[u8], counts: Counts) -> i64
-    requires { ⌜ sums.Priceable (now clearing) counts t ⌝ }
-    ensures { λ r. ⌜ r ≡ sums.pricedIn (now (clearing .entry)) counts m t ⌝ }
+fn priced(measure: Measure, trade: Trade, clearing: &[u8], counts: Counts) -> i64
+    requires { ⌜ sums.Priceable (now clearing) counts trade ⌝ }
+    ensures { λ r. ⌜ r ≡ sums.pricedIn (now (clearing .entry)) counts measure trade ⌝ }
 {
-    market::measured(m, t, book::price_of(clearing, counts, t.zone, t.period))
+    market::measured(
+        measure,
+        trade,
+        book::price_of(clearing, counts, trade.zone, trade.period),
+    )
 }
 
-fn one_step(m: Measure, day: &[u8], clearing: &[u8], counts: Counts, i: usize) -> i64
-    requires { ⌜ (OfFiles (now day) (now clearing) counts) × (i < counts .steps) ⌝ }
-    ensures { λ r. ⌜ r ≡ sums.oneStep counts (now (day .entry)) (now (clearing .entry)) m i ⌝ }
+fn one_step(measure: Measure, day: &[u8], clearing: &[u8], counts: Counts, row: usize) -> i64
+    requires { ⌜ (OfFiles (now day) (now clearing) counts) × (row < counts .steps) ⌝ }
+    ensures { λ r. ⌜ r ≡ sums.oneStep counts (now (day .entry)) (now (clearing .entry)) measure row ⌝ }
 {
-    priced(m, step_trade(day, clearing, counts, i), clearing, counts)
+    priced(
+        measure,
+        step_trade(day, clearing, counts, row),
+        clearing,
+        counts,
+    )
 }
 
-fn over_steps(m: Measure, day: &[u8], clearing: &[u8], counts: Counts) -> i64
+fn over_steps(measure: Measure, day: &[u8], clearing: &[u8], counts: Counts) -> i64
     requires { ⌜ OfFiles (now day) (now clearing) counts ⌝ }
-    ensures { λ r. ⌜ r ≡ sum (counts .steps) (sums.oneStep counts (now (day .entry)) (now (clearing .entry)) m) ⌝ }
+    ensures { λ r. ⌜ r ≡ sum (counts .steps) (sums.oneStep counts (now (day .entry)) (now (clearing .entry)) measure) ⌝ }
 {
     let mut all: i64 = 0;
     for i in 0..counts.steps {
-        all = market::add(all, one_step(m, day, clearing, counts, i));
+        all = market::add(all, one_step(measure, day, clearing, counts, i));
     }
     all
 }
@@ -78,23 +87,23 @@ fn block_trade(block: Block, period: usize, volume: u32) -> Trade
 }
 
 fn one_period(
-    m: Measure,
+    measure: Measure,
     day: &[u8],
     clearing: &[u8],
     counts: Counts,
-    k: usize,
+    row: usize,
     taken: bool,
     period: usize,
 ) -> i64
-    requires { ⌜ (OfFiles (now day) (now clearing) counts) × ((k < counts .blocks) × (period < counts .periods)) ⌝ }
-    ensures { λ r. ⌜ r ≡ sums.onePeriod counts (now (day .entry)) (now (clearing .entry)) m k taken period ⌝ }
+    requires { ⌜ (OfFiles (now day) (now clearing) counts) × ((row < counts .blocks) × (period < counts .periods)) ⌝ }
+    ensures { λ r. ⌜ r ≡ sums.onePeriod counts (now (day .entry)) (now (clearing .entry)) measure row taken period ⌝ }
 {
     priced(
-        m,
+        measure,
         block_trade(
-            book::block_of(day, counts, k),
+            book::block_of(day, counts, row),
             period,
-            block_volume(taken, book::quantity_of(day, counts, k, period)),
+            block_volume(taken, book::quantity_of(day, counts, row, period)),
         ),
         clearing,
         counts,
@@ -103,57 +112,60 @@ fn one_period(
 
 // A block in all its periods, as if it were taken or not.
 fn whole_block(
-    m: Measure,
+    measure: Measure,
     day: &[u8],
     clearing: &[u8],
     counts: Counts,
-    k: usize,
+    row: usize,
     taken: bool,
 ) -> i64
-    requires { ⌜ (OfFiles (now day) (now clearing) counts) × (k < counts .blocks) ⌝ }
-    ensures { λ r. ⌜ r ≡ sums.wholeBlock counts (now (day .entry)) (now (clearing .entry)) m k taken ⌝ }
+    requires { ⌜ (OfFiles (now day) (now clearing) counts) × (row < counts .blocks) ⌝ }
+    ensures { λ r. ⌜ r ≡ sums.wholeBlock counts (now (day .entry)) (now (clearing .entry)) measure row taken ⌝ }
 {
     let mut all: i64 = 0;
     for period in 0..counts.periods {
-        all = market::add(all, one_period(m, day, clearing, counts, k, taken, period));
+        all = market::add(
+            all,
+            one_period(measure, day, clearing, counts, row, taken, period),
+        );
     }
     all
 }
 
-fn one_block(m: Measure, day: &[u8], clearing: &[u8], counts: Counts, k: usize) -> i64
-    requires { ⌜ (OfFiles (now day) (now clearing) counts) × (k < counts .blocks) ⌝ }
-    ensures { λ r. ⌜ r ≡ sums.oneBlock counts (now (day .entry)) (now (clearing .entry)) m k ⌝ }
+fn one_block(measure: Measure, day: &[u8], clearing: &[u8], counts: Counts, row: usize) -> i64
+    requires { ⌜ (OfFiles (now day) (now clearing) counts) × (row < counts .blocks) ⌝ }
+    ensures { λ r. ⌜ r ≡ sums.oneBlock counts (now (day .entry)) (now (clearing .entry)) measure row ⌝ }
 {
     whole_block(
-        m,
+        measure,
         day,
         clearing,
         counts,
-        k,
-        book::taken_of(clearing, counts, k),
+        row,
+        book::taken_of(clearing, counts, row),
     )
 }
 
-fn over_blocks(m: Measure, day: &[u8], clearing: &[u8], counts: Counts) -> i64
+fn over_blocks(measure: Measure, day: &[u8], clearing: &[u8], counts: Counts) -> i64
     requires { ⌜ OfFiles (now day) (now clearing) counts ⌝ }
-    ensures { λ r. ⌜ r ≡ sum (counts .blocks) (sums.oneBlock counts (now (day .entry)) (now (clearing .entry)) m) ⌝ }
+    ensures { λ r. ⌜ r ≡ sum (counts .blocks) (sums.oneBlock counts (now (day .entry)) (now (clearing .entry)) measure) ⌝ }
 {
     let mut all: i64 = 0;
     for k in 0..counts.blocks {
-        all = market::add(all, one_block(m, day, clearing, counts, k));
+        all = market::add(all, one_block(measure, day, clearing, counts, k));
     }
     all
 }
 
 // ---- over all that is accepted
 
-fn everything(m: Measure, day: &[u8], clearing: &[u8], counts: Counts) -> i64
+fn everything(measure: Measure, day: &[u8], clearing: &[u8], counts: Counts) -> i64
     requires { ⌜ OfFiles (now day) (now clearing) counts ⌝ }
-    ensures { λ r. ⌜ r ≡ sums.everything counts (now (day .entry)) (now (clearing .entry)) m ⌝ }
+    ensures { λ r. ⌜ r ≡ sums.everything counts (now (day .entry)) (now (clearing .entry)) measure ⌝ }
 {
     market::add(
-        over_steps(m, day, clearing, counts),
-        over_blocks(m, day, clearing, counts),
+        over_steps(measure, day, clearing, counts),
+        over_blocks(measure, day, clearing, counts),
     )
 }
 
@@ -166,11 +178,11 @@ pub fn net_position(day: &[u8], clearing: &[u8], counts: Counts, zone: usize, pe
 
 // ---- the shortfall
 
-pub fn whole_surplus(day: &[u8], clearing: &[u8], counts: Counts, k: usize) -> i64
-    requires { ⌜ (OfFiles (now day) (now clearing) counts) × (k < counts .blocks) ⌝ }
-    ensures { λ r. ⌜ r ≡ sums.wholeSurplus counts (now (day .entry)) (now (clearing .entry)) k ⌝ }
+pub fn whole_surplus(day: &[u8], clearing: &[u8], counts: Counts, row: usize) -> i64
+    requires { ⌜ (OfFiles (now day) (now clearing) counts) × (row < counts .blocks) ⌝ }
+    ensures { λ r. ⌜ r ≡ sums.wholeSurplus counts (now (day .entry)) (now (clearing .entry)) row ⌝ }
 {
-    whole_block(Measure::Surplus, day, clearing, counts, k, true)
+    whole_block(Measure::Surplus, day, clearing, counts, row, true)
 }
 
 fn missed_by(taken: bool, surplus: i64) -> i64
@@ -179,13 +191,13 @@ fn missed_by(taken: bool, surplus: i64) -> i64
     if !taken & (0 < surplus) { surplus } else { 0 }
 }
 
-fn missed(day: &[u8], clearing: &[u8], counts: Counts, k: usize) -> i64
-    requires { ⌜ (OfFiles (now day) (now clearing) counts) × (k < counts .blocks) ⌝ }
-    ensures { λ r. ⌜ r ≡ sums.missed counts (now (day .entry)) (now (clearing .entry)) k ⌝ }
+fn missed(day: &[u8], clearing: &[u8], counts: Counts, row: usize) -> i64
+    requires { ⌜ (OfFiles (now day) (now clearing) counts) × (row < counts .blocks) ⌝ }
+    ensures { λ r. ⌜ r ≡ sums.missed counts (now (day .entry)) (now (clearing .entry)) row ⌝ }
 {
     missed_by(
-        book::taken_of(clearing, counts, k),
-        whole_surplus(day, clearing, counts, k),
+        book::taken_of(clearing, counts, row),
+        whole_surplus(day, clearing, counts, row),
     )
 }
 

@@ -15,12 +15,11 @@ use Rattle.market.specs.RuleLaws.{lawful-is}
 use Rattle.market.specs.declared.Totals.{Totals}
 use Rattle.day.specs.declared.Counts.{Counts}
 use Rattle.day.specs.Day.{counts}
-use Rattle.day.specs.Good.{in-limits}
 use Rattle.clearing.specs.Clearing.{fileStages, files}
 use Rattle.clearing.specs.Good.{good-files}
 use Rattle.clearing.specs.declared.Files.the-variants.{Good}
 use Rattle.book.specs.Book as book
-use Rattle.book.specs.Of.{OfClearing, OfFiles}
+use Rattle.book.specs.Of.{OfFiles, of-files}
 use Rattle.totals.specs.Sums as sums
 use Rattle.rules.specs.Judge as rules
 use Rattle.statement.specs.Statement.{statement, statementLength}
@@ -74,10 +73,7 @@ pub record Released (day clearing : List ℕ) (c : Counts) : Type 0 where
 pub good-of : (day clearing : List ℕ) {c : Counts} → Good c ≡ files day clearing → OfFiles day clearing c
 good-of day clearing {c} e =
     let g = good-files day clearing c (sym e) in
-    record {
-      of-day = record { good = g .1 .0; counted = g .0 };
-      of-clearing = subst (OfClearing clearing) (g .0) (record { cleared = g .1 .1; limits = in-limits (g .1 .0) });
-    }
+    subst (OfFiles day clearing) (g .0) (of-files (g .1 .0) (g .1 .1))
 
 module _ {day clearing : List ℕ} {c : Counts} (o : OfFiles day clearing c) where
   -- what holds by the file's own counts holds by those in hand

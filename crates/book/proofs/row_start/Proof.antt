@@ -9,7 +9,7 @@ use Rattle.book.proofs.row_start.Tie as tie
 row-size-requires : tie.Need-row-size-requires
 row-size-requires c κs = search needs
 
-small : (c : tie.After-row-size) → c .row-size .result * c .before .args .i ≤ 65535 * 65535
+small : (c : tie.After-row-size) → c .row-size .result * c .before .args .row ≤ 65535 * 65535
 small c = mul-le-mul {n₂ = 65535} {m₂ = 65535} (omega arith) (omega arith)
 
 mul-result : tie.Need-mul-result

@@ -21,7 +21,7 @@ u8-at-requires c κs =
 
 returns : tie.Need-returns
 unfolding takenOf
-returns c = rw (c .u8-at .ensures .0, c .before .taken-part .ensures, one-mul (c .before .before .before .args .k))
+returns c = rw (c .u8-at .ensures .0, c .before .taken-part .ensures, one-mul (c .before .before .before .args .row))
 
 pub taken-of-spec : {M : Type 1} → statement M
 taken-of-spec = tie.close (tie.spec taken-part-requires add-u8-at u8-at-requires returns)

@@ -34,8 +34,8 @@ enum-told-5 c = search needs
 gain-requires-3 : tie.Need-gain-requires-3
 gain-requires-3 c κs = search needs
 
-enum-known-m : tie.Need-enum-known-m
-enum-known-m c = search needs
+enum-known-measure : tie.Need-enum-known-measure
+enum-known-measure c = search needs
 
 volume-at-requires : tie.Need-volume-at-requires
 volume-at-requires c κs = search needs
@@ -47,13 +47,13 @@ returns : tie.Need-returns
 returns c =
     let s = c .before .before .before .before in
     rw (c .before .before .enum-told .given .1)
-    (gained (s .args .t .limit) (pos 0) (s .args .t .volume) (record { sfits = c .before .struct-told .given .1 .1 .1 .0 .1 }) zero-fits (c .gain .ok) (c .gain .ensures))
+    (gained (s .args .trade .limit) (pos 0) (s .args .trade .volume) (record { sfits = c .before .struct-told .given .1 .1 .1 .0 .1 }) zero-fits (c .gain .ok) (c .gain .ensures))
 
 returns-2 : tie.Need-returns-2
 returns-2 c =
     let s = c .before .before .before .before in
     rw (c .before .before .enum-told2 .given .1)
-    (gained (s .args .t .limit) (s .args .price) (s .args .t .volume) (record { sfits = c .before .struct-told2 .given .1 .1 .1 .0 .1 }) (s .fits .price) (c .gain2 .ok) (c .gain2 .ensures))
+    (gained (s .args .trade .limit) (s .args .price) (s .args .trade .volume) (record { sfits = c .before .struct-told2 .given .1 .1 .1 .0 .1 }) (s .fits .price) (c .gain2 .ok) (c .gain2 .ensures))
 
 returns-3 : tie.Need-returns-3
 returns-3 c = rw (c .enum-told3 .given .1)
@@ -65,13 +65,13 @@ returns-5 : tie.Need-returns-5
 returns-5 c =
     let s = c .before .before .before .before in
     rw (c .before .before .enum-told5 .given .1)
-    (gained (s .args .t .limit) (s .args .price) (s .args .t .volume) (record { sfits = c .before .struct-told3 .given .1 .1 .1 .0 .1 }) (s .fits .price) (c .gain3 .ok) (c .gain3 .ensures))
+    (gained (s .args .trade .limit) (s .args .price) (s .args .trade .volume) (record { sfits = c .before .struct-told3 .given .1 .1 .1 .0 .1 }) (s .fits .price) (c .gain3 .ok) (c .gain3 .ensures))
 
 returns-6 : tie.Need-returns-6
 returns-6 c =
     let v = c .before .volume-at in
     rw (
-      c .before .before .before .m .given .1,
+      c .before .before .before .measure .given .1,
       same (c .negative .result) (c .negative .ok),
       c .negative .ensures,
       same (v .result) (v .ok),
@@ -91,7 +91,7 @@ bought-spec =
     wide-requires
     enum-told-5
     gain-requires-3
-    enum-known-m
+    enum-known-measure
     volume-at-requires
     negative-requires
     returns

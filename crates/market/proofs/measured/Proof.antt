@@ -32,13 +32,13 @@ returns : tie.Need-returns
 returns c =
     let s = c .before .before .before in
     rw (same (c .sold .result) (c .sold .ok), c .sold .ensures, toZ-ofZ w64 (s .args .price) (s .fits .price))
-    (sym (by-side (s .args .m) (s .args .price) (s .args .t) (c .before .enum-told .given .1)))
+    (sym (by-side (s .args .measure) (s .args .price) (s .args .trade) (c .before .enum-told .given .1)))
 
 returns-2 : tie.Need-returns-2
 returns-2 c =
     let s = c .before .before .before in
     rw (same (c .bought .result) (c .bought .ok), c .bought .ensures, toZ-ofZ w64 (s .args .price) (s .fits .price))
-    (sym (by-side (s .args .m) (s .args .price) (s .args .t) (c .before .enum-told2 .given .1)))
+    (sym (by-side (s .args .measure) (s .args .price) (s .args .trade) (c .before .enum-told2 .given .1)))
 
 pub measured-spec : {M : Type 1} → statement M
 measured-spec =

@@ -31,8 +31,8 @@ enum-told-5 c = search needs
 gain-requires-3 : tie.Need-gain-requires-3
 gain-requires-3 c κs = search needs
 
-enum-known-m : tie.Need-enum-known-m
-enum-known-m c = search needs
+enum-known-measure : tie.Need-enum-known-measure
+enum-known-measure c = search needs
 
 volume-at-requires : tie.Need-volume-at-requires
 volume-at-requires c κs = search needs
@@ -41,7 +41,7 @@ returns : tie.Need-returns
 returns c =
     let s = c .before .before .before .before in
     rw (c .before .before .enum-told .given .1)
-    (gained (pos 0) (s .args .t .limit) (s .args .t .volume) zero-fits (record { sfits = c .before .struct-told .given .1 .1 .1 .0 .1 }) (c .gain .ok) (c .gain .ensures))
+    (gained (pos 0) (s .args .trade .limit) (s .args .trade .volume) zero-fits (record { sfits = c .before .struct-told .given .1 .1 .1 .0 .1 }) (c .gain .ok) (c .gain .ensures))
 
 returns-2 : tie.Need-returns-2
 returns-2 c = rw (c .enum-told2 .given .1)
@@ -50,7 +50,7 @@ returns-3 : tie.Need-returns-3
 returns-3 c =
     let s = c .before .before .before .before in
     rw (c .before .before .enum-told3 .given .1)
-    (gained (s .args .price) (s .args .t .limit) (s .args .t .volume) (s .fits .price) (record { sfits = c .before .struct-told2 .given .1 .1 .1 .0 .1 }) (c .gain2 .ok) (c .gain2 .ensures))
+    (gained (s .args .price) (s .args .trade .limit) (s .args .trade .volume) (s .fits .price) (record { sfits = c .before .struct-told2 .given .1 .1 .1 .0 .1 }) (c .gain2 .ok) (c .gain2 .ensures))
 
 returns-4 : tie.Need-returns-4
 returns-4 c = rw (c .enum-told4 .given .1)
@@ -59,10 +59,10 @@ returns-5 : tie.Need-returns-5
 returns-5 c =
     let s = c .before .before .before .before in
     rw (c .before .before .enum-told5 .given .1)
-    (gained (s .args .price) (s .args .t .limit) (s .args .t .volume) (s .fits .price) (record { sfits = c .before .struct-told3 .given .1 .1 .1 .0 .1 }) (c .gain3 .ok) (c .gain3 .ensures))
+    (gained (s .args .price) (s .args .trade .limit) (s .args .trade .volume) (s .fits .price) (record { sfits = c .before .struct-told3 .given .1 .1 .1 .0 .1 }) (c .gain3 .ok) (c .gain3 .ensures))
 
 returns-6 : tie.Need-returns-6
-returns-6 c = rw (c .before .before .m .given .1) (same (c .volume-at .result) (c .volume-at .ok) ∙ c .volume-at .ensures .0)
+returns-6 c = rw (c .before .before .measure .given .1) (same (c .volume-at .result) (c .volume-at .ok) ∙ c .volume-at .ensures .0)
 
 pub sold-spec : {M : Type 1} → statement M
 sold-spec =
@@ -76,7 +76,7 @@ sold-spec =
     enum-told-4
     enum-told-5
     gain-requires-3
-    enum-known-m
+    enum-known-measure
     volume-at-requires
     returns
     returns-2

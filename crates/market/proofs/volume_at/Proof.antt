@@ -28,13 +28,13 @@ wide-requires c κs = search needs
 returns : tie.Need-returns
 returns c =
     let s = c .before .before .before .before in
-    rw (same (c .wide .result) (c .wide .ok), c .wide .ensures, here (s .args .zone) (s .args .period) (s .args .t) true (c .before .if1 .taken))
+    rw (same (c .wide .result) (c .wide .ok), c .wide .ensures, here (s .args .zone) (s .args .period) (s .args .trade) true (c .before .if1 .taken))
     (refl, s .pre)
 
 returns-2 : tie.Need-returns-2
 returns-2 c =
     let s = c .before .before .before in
-    rw (here (s .args .zone) (s .args .period) (s .args .t) false (c .if1 .left)) (refl, omega arith)
+    rw (here (s .args .zone) (s .args .period) (s .args .trade) false (c .if1 .left)) (refl, omega arith)
 
 pub volume-at-spec : {M : Type 1} → statement M
 volume-at-spec = tie.close (tie.spec wide-requires returns returns-2)

@@ -57,7 +57,7 @@ returns c =
     let first = second .before .before .before .before .before in
     let count = first .before .before .before .before .before in
     let s = count .before .before .before in
-    let t = s .args .t in
+    let t = s .args .totals in
     let fits = first .before .struct-told .given in
     let r1 = total-stored 2 (t .value) (record { sfits = fits .0 .1 }) (first .put-i64 .ensures) (count .put-u16 .ensures) in
     let r2 = total-stored 10 (t .buyers) (record { sfits = fits .1 .0 .1 }) (second .put-i642 .ensures) r1 in
@@ -66,8 +66,8 @@ returns c =
     let r5 = total-stored 34 (t .traded) (record { sfits = fits .1 .1 .1 .1 .0 .1 }) (fifth .put-i645 .ensures) r4 in
     let r6 = total-stored 42 (t .shortfall) (record { sfits = fits .1 .1 .1 .1 .1 .0 .1 }) (sixth .put-i646 .ensures) r5 in
     last .put-u162 .ensures
-    ∙ ap (λ (r : List ℕ). put r 50 (bytes16 (s .args .n))) r6
-    ∙ head-stored t (s .args .n) (now (s .args .room)) (s .pre)
+    ∙ ap (λ (r : List ℕ). put r 50 (bytes16 (s .args .count))) r6
+    ∙ head-stored t (s .args .count) (now (s .args .room)) (s .pre)
 
 pub put-head-spec : {M : Type 1} → statement M
 put-head-spec =

@@ -23,7 +23,7 @@ returns c =
       call .put-i32 .ensures,
       toZ-ofZ w32 (short .result) (record { sfits = short .ok }),
       short .ensures,
-      toZ-ofZ w64 (s .args .v) (s .fits .v),
+      toZ-ofZ w64 (s .args .net) (s .fits .net),
     )
 
 pub put-net-spec : {M : Type 1} → statement M

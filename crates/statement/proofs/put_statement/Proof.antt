@@ -31,7 +31,7 @@ returns c =
     let same = nets-cong flows net n (λ k. flow-row-is (s .pre .0 .0) k (s .pre .1)) in
     nets .put-nets .ensures
     ∙ rw (head .put-head .ensures, head .before .count-of .ensures, same)
-    (statement-stored (a .t) net n (now (a .room)) (s .pre .0 .1))
+    (statement-stored (a .totals) net n (now (a .room)) (s .pre .0 .1))
 
 pub put-statement-spec : {M : Type 1} → statement M
 put-statement-spec = tie.close (tie.spec count-of-requires put-head-requires put-nets-requires same-length returns)

@@ -43,15 +43,15 @@ over-blocks-requires c κs = search needs
 -- what is added to what
 both : (c : tie.After-over-blocks) → let a = c .before .before .before .before .args in
     toZ w64 (ofZ w64 (c .before .over-steps .result)) +ℤ toZ w64 (ofZ w64 (c .over-blocks .result))
-    ≡ everything (a .counts) (now (a .day)) (now (a .clearing)) (a .m)
+    ≡ everything (a .counts) (now (a .day)) (now (a .clearing)) (a .measure)
 both c =
     let steps = c .before .over-steps in
     let blocks = c .over-blocks in
     rw (same (steps .result) (steps .ok), same (blocks .result) (blocks .ok), steps .ensures, blocks .ensures)
-    (sym (accepted-is _ _ _ (c .before .before .before .before .args .m)))
+    (sym (accepted-is _ _ _ (c .before .before .before .before .args .measure)))
 
 add-requires : tie.Need-add-requires
-add-requires c κs = let s = c .before .before .before .before in rw (both c) (everything-fits (s .pre) (s .args .m))
+add-requires c κs = let s = c .before .before .before .before in rw (both c) (everything-fits (s .pre) (s .args .measure))
 
 returns : tie.Need-returns
 returns c = same (c .add .result) (c .add .ok) ∙ c .add .ensures ∙ both (c .before)

@@ -37,7 +37,7 @@ block-trade-requires c κs = search needs
 
 -- the trade that is priced
 trade : (c : tie.After-block-trade) → let a = c .before .before .before .before .before .before .args in
-    c .block-trade .result ≡ blockTrade (a .counts) (now (a .day)) (now (a .clearing)) (a .k) (a .period) (a .taken)
+    c .block-trade .result ≡ blockTrade (a .counts) (now (a .day)) (now (a .clearing)) (a .row) (a .period) (a .taken)
 trade c =
     c .block-trade .ensures
     ∙ rw (c .before .block-volume .ensures, c .before .before .quantity-of .ensures, c .before .before .before .block-of .ensures)

@@ -48,7 +48,7 @@ returns-2 c =
     let n = else .before .statement-length in (
       long-enough o _ (rw (n .ensures) at (else .if1 .left)) (totals .totals-of .ensures),
       left-in o (now (s .args .room)) _ (n .result - 0) (omega (arith, n .ensures)) (omega (arith, else .if1 .left)) (totals .totals-of .ensures)
-      (c .before .before .put-statement .ensures),
+          (c .before .before .put-statement .ensures),
     )
 
 pub from-room-spec : {M : Type 1} → statement M
