@@ -109,6 +109,10 @@ module _ (d : Day) (c : Choice) where
 
 -- ---- the totals
 
+-- what a block misses that would have this surplus whole: nothing where it is accepted
+abbrev pub missedOf : Bool → ℤ → ℤ
+missedOf taken surplus = cond taken (pos 0) (above-zero surplus)
+
 module _ (d : Day) (c : Choice) where
   -- Order value: limit times accepted volume over buys, less the same over sells, blocks included.
   abbrev pub orderValue : ℤ
@@ -142,7 +146,7 @@ module _ (d : Day) (p : Prices) (c : Choice) where
 
   -- Shortfall: over the rejected blocks, the surplus that the whole block would have had at the stated prices, where above zero, else 0.
   abbrev pub missed : ℕ → ℤ
-  missed k = cond (c .taken k) (pos 0) (above-zero (wholeSurplus d p k))
+  missed k = missedOf (c .taken k) (wholeSurplus d p k)
 
   unfoldable pub shortfall : ℤ
   shortfall = sum (d .blocks) missed

@@ -12,26 +12,16 @@ use Rattle.whole.specs.Sums.{sums, sum-cong}
 use Rattle.whole.specs.Size.{abs-neg, abs--, abs-*-≤, at-size, above-zero-size, sum-within}
 use Rattle.limits.specs.Limits.{mostPeriods, mostLines, mostSteps, mostBlocks, mostPrice, mostFlow, mostVolume}
 use Rattle.market.specs.Market.{Day, Choice, Prices, blockVolume, stepTrade, blockTrade, ofSells, ofBuys, volumeAt, margin}
-use Rattle.market.specs.Market.{accepted, netPosition, leaving, entering, orderValue, tradedVolume, wholeSurplus, missed}
+use Rattle.market.specs.Market.{accepted, netPosition, leaving, entering, orderValue, tradedVolume, wholeSurplus, missedOf, missed}
 use Rattle.market.specs.Market.{buyerSurplus, sellerSurplus, rentAt}
 use Rattle.market.specs.Range.{Placed, Ranged}
+use Rattle.market.specs.Margins.{accepted-cong, accepted-minus}
 use Rattle.market.specs.Measures.{lineLeaves, gain, sold, bought, bySide, measured, priced, Small, stepMeasured, blockMeasured}
 use Rattle.market.specs.declared.Side.{Side}
 use Rattle.market.specs.declared.Side.the-variants.{Sell, Buy}
 use Rattle.market.specs.declared.Trade.{Trade}
 use Rattle.market.specs.declared.Measure.{Measure}
 use Rattle.market.specs.declared.Measure.the-variants.{Value, Buyers, Sellers, Traded, Surplus, Net}
-
--- ---- what is accepted, term by term
-
-module _ (d : Day) (c : Choice) where
-  pub accepted-cong : (f g : Trade → ℤ) → ((t : Trade) → f t ≡ g t) → accepted d c f ≡ accepted d c g
-  unfolding accepted
-  accepted-cong f g h = simp h
-
-  pub accepted-minus : (f g : Trade → ℤ) → accepted d c f -ℤ accepted d c g ≡ accepted d c (λ t. f t -ℤ g t)
-  unfolding accepted
-  accepted-minus f g = simp sums (simp linear (omega arith))
 
 -- ---- the sums of what is counted are the totals
 
@@ -187,9 +177,9 @@ module _ (d : Day) (p : Prices) (c : Choice) (placed : Placed d) (ranged : Range
   pub missed-one-size : (k : ℕ) → k < d .blocks → natAbs (missed d p c k) ≤ 50000000000000
   missed-one-size k l = by (c .taken k)
     where
-      by : (taken : Bool) → natAbs (cond taken (pos 0) (above-zero (wholeSurplus d p k))) ≤ 50000000000000
-      by true = omega arith
-      by false = le-trans (above-zero-size (wholeSurplus d p k)) (whole-size k l)
+      by : (taken : Bool) → natAbs (missedOf taken (wholeSurplus d p k)) ≤ 50000000000000
+      by true = omega (arith, above-zero-size (wholeSurplus d p k), whole-size k l)
+      by false = omega (arith, above-zero-size (wholeSurplus d p k), whole-size k l)
 
   pub missed-size : (n : ℕ) → n ≤ d .blocks → natAbs (sum n (missed d p c)) ≤ 5000000000000000
   missed-size n l =

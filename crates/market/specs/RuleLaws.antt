@@ -4,6 +4,7 @@ use native.Mathlib.Omega.{arith}
 use mathlib.Core.Path.{_≡_, refl}
 use mathlib.Core.Logic.{_↔_, _⊎_, inl, inr, Iff·rfl}
 use mathlib.Core.Bool.{Bool, true, false, cond, _||_, not}
+use mathlib.Core.List.{[], _∷_}
 use lib.IntN.{ℤ, pos, negℤ, _-ℤ_, _*ℤ_}
 use Rattle.whole.specs.Whole.{_≼_, _≺_, above-zero, sum}
 use Rattle.whole.specs.Ring.{given, linear, ring, leZ-true, leZ-false, ≼-refl, ≼-antisym, ≼-or-<, *-nonneg, above-zero-nonneg}
@@ -11,8 +12,10 @@ use Rattle.whole.specs.Sums.{sums, sum-nonneg}
 use Rattle.stages.specs.First.{both, apart, leb-is, eqb-is}
 use Rattle.stages.specs.Stage.{Holds, Means}
 use Rattle.stages.specs.declared.Fault.the-variants.{Clean}
-use Rattle.market.specs.Market.{Day, Choice, Prices, margin, wholeSurplus, rent, shortfall}
+use Rattle.market.specs.Market.{Day, Choice, Prices, wholeSurplus, rent, missedOf, shortfall}
+use Rattle.market.specs.Other.{Allowed}
 use Rattle.market.specs.Range.{Placed}
+use Rattle.market.specs.Margins.{pays-is}
 use Rattle.market.specs.Rules.{InTheMoney, OutOfTheMoney, Pays, Lawful, equal, stepOk, lineOk, blockOk, test, Obeys}
 use Rattle.market.specs.Rules.{rows, columns, ruleStage, ruleStages}
 use Rattle.market.specs.declared.Side.{Side}
@@ -47,13 +50,6 @@ step-is : (side : Side) (limit price : ℤ) (quantity volume : ℕ) → (stepOk 
     ↔ ((InTheMoney side limit price → volume ≡ quantity) × (OutOfTheMoney side limit price → volume ≡ 0))
 step-is Sell limit price quantity volume = simp tests Iff·rfl
 step-is Buy limit price quantity volume = simp tests Iff·rfl
-
--- a surplus is not below zero just where the block pays
-pays-is : (n : ℕ) (side : Side) (limit : ℤ) (price : ℕ → ℤ) (quantity : ℕ → ℕ) →
-    (pos 0 ≼ sum n (λ h. margin side limit (price h) *ℤ pos (quantity h)))
-    ↔ Pays side (limit *ℤ sum n (λ h. pos (quantity h))) (sum n (λ h. pos (quantity h) *ℤ price h))
-pays-is n Sell limit price quantity = simp sums (simp linear (omega arith))
-pays-is n Buy limit price quantity = simp sums (simp linear (omega arith))
 
 module _ (d : Day) (p : Prices) (c : Choice) where
   pub test-is : (rule : Rule) (row col : ℕ) → (test d p c rule row col ≡ true) ↔ Obeys d p c rule row col
@@ -111,6 +107,14 @@ module _ (d : Day) (p : Prices) (c : Choice) where
     ),
   )
 
+  -- a choice is allowed where the tests pass that ask no price
+  pub tests-allow : Means (ruleStage d p c Capacity ∷ ruleStage d p c Quantity ∷ ruleStage d p c Balance ∷ []) Clean → Allowed d c
+  tests-allow m = record {
+    quantities = λ i l. rule-holds Quantity .0 (m .1 .0) i 0 l (omega arith);
+    capacities = rule-holds Capacity .0 (m .0);
+    balance = rule-holds Balance .0 (m .1 .1 .0);
+  }
+
 -- ---- what follows
 
 -- at the price any volume is allowed
@@ -147,6 +151,6 @@ module _ (d : Day) (p : Prices) (c : Choice) where
   unfolding shortfall
   shortfall-nonneg = sum-nonneg _ _ (λ k _. by (c .taken k) (wholeSurplus d p k))
     where
-      by : (taken : Bool) (surplus : ℤ) → pos 0 ≼ cond taken (pos 0) (above-zero surplus)
-      by true surplus = ≼-refl (pos 0)
-      by false surplus = above-zero-nonneg surplus
+      by : (taken : Bool) (surplus : ℤ) → pos 0 ≼ missedOf taken surplus
+      by true surplus = given (above-zero-nonneg surplus) (simp linear (omega arith))
+      by false surplus = given (above-zero-nonneg surplus) (simp linear (omega arith))

@@ -31,11 +31,12 @@ abbrev pub Pays : Side → ℤ → ℤ → Type 0
 Pays Sell limits income = limits ≼ income
 Pays Buy limits income = income ≼ limits
 
-module _ (d : Day) (p : Prices) (c : Choice) where
+module _ (d : Day) (p : Prices) where
   -- 11. Every price lies from floor to ceiling, both allowed.
   abbrev pub PriceAt : ℕ → ℕ → Type 0
   PriceAt zone period = (d .floor period ≼ p zone period) × (p zone period ≼ d .ceiling period)
 
+module _ (d : Day) (c : Choice) where
   -- 12. Flow is at most forward capacity and at least minus back capacity.
   abbrev pub CapacityAt : ℕ → ℕ → Type 0
   CapacityAt l period = (c .flow l period ≼ d .forward l period) × (negℤ (d .back l period) ≼ c .flow l period)
@@ -48,6 +49,17 @@ module _ (d : Day) (p : Prices) (c : Choice) where
   abbrev pub BalanceAt : ℕ → ℕ → Type 0
   BalanceAt zone period = netPosition d c zone period ≡ leaving d c zone period -ℤ entering d c zone period
 
+  -- these three at all their places: they speak of no price
+  abbrev pub KeepsCapacities : Type 0
+  KeepsCapacities = (l period : ℕ) → l < d .lines → period < d .periods → CapacityAt l period
+
+  abbrev pub KeepsQuantities : Type 0
+  KeepsQuantities = (i : ℕ) → i < d .steps → QuantityAt i
+
+  abbrev pub Balanced : Type 0
+  Balanced = (zone period : ℕ) → zone < d .zones → period < d .periods → BalanceAt zone period
+
+module _ (d : Day) (p : Prices) (c : Choice) where
   -- 15. A sell step below its zone's price is accepted in full, above it not at all; a buy step above the price in full, below it not at
   -- all. At the price any volume is allowed.
   abbrev pub StepAt : ℕ → Type 0
@@ -74,10 +86,10 @@ module _ (d : Day) (p : Prices) (c : Choice) where
 
   -- every rule, at all its places
   pub record Lawful : Type 0 where
-    pub price-rule : (zone period : ℕ) → zone < d .zones → period < d .periods → PriceAt zone period
-    pub capacity-rule : (l period : ℕ) → l < d .lines → period < d .periods → CapacityAt l period
-    pub quantity-rule : (i : ℕ) → i < d .steps → QuantityAt i
-    pub balance-rule : (zone period : ℕ) → zone < d .zones → period < d .periods → BalanceAt zone period
+    pub price-rule : (zone period : ℕ) → zone < d .zones → period < d .periods → PriceAt d p zone period
+    pub capacity-rule : KeepsCapacities d c
+    pub quantity-rule : KeepsQuantities d c
+    pub balance-rule : Balanced d c
     pub step-rule : (i : ℕ) → i < d .steps → StepAt i
     pub line-rule : (l period : ℕ) → l < d .lines → period < d .periods → LineAt l period
     pub block-rule : (k : ℕ) → k < d .blocks → BlockAt k
@@ -117,10 +129,10 @@ module _ (d : Day) (p : Prices) (c : Choice) where
 
   -- the sentence that is tested there
   abbrev pub Obeys : Rule → ℕ → ℕ → Type 0
-  Obeys Price zone period = PriceAt d p c zone period
-  Obeys Capacity l period = CapacityAt d p c l period
-  Obeys Quantity i _ = QuantityAt d p c i
-  Obeys Balance zone period = BalanceAt d p c zone period
+  Obeys Price zone period = PriceAt d p zone period
+  Obeys Capacity l period = CapacityAt d c l period
+  Obeys Quantity i _ = QuantityAt d c i
+  Obeys Balance zone period = BalanceAt d c zone period
   Obeys Step i _ = StepAt d p c i
   Obeys Line l period = LineAt d p c l period
   Obeys Block k _ = BlockAt d p c k

@@ -10,7 +10,7 @@ use mir.Syntax.{w32}
 use mir.Val.{SFits}
 use Rattle.whole.specs.Size.{fits-i32}
 use Rattle.market.specs.Market.{netPosition}
-use Rattle.market.specs.Rules.{BalanceAt}
+use Rattle.market.specs.Rules.{Balanced}
 use Rattle.market.specs.MeasureLaws.{flows-size, net-flow-is}
 use Rattle.day.specs.declared.Counts.{Counts}
 use Rattle.book.specs.Book.{dayOf, pricesOf, choiceOf}
@@ -33,10 +33,6 @@ module _ (c : Counts) (day clearing : List ℕ) where
   -- what the lines carry away, in the same rows
   abbrev pub flowRow : ℕ → ℤ
   flowRow = inRow (c .periods) (netFlow c day clearing)
-
-  -- the two are the same where the clearing is balanced
-  abbrev pub Balanced : Type 0
-  Balanced = (zone period : ℕ) → zone < c .zones → period < c .periods → BalanceAt (dayOf c day) (pricesOf c clearing) (choiceOf c clearing) zone period
 
 -- ---- a row's zone and period, and the row of a zone and a period
 
@@ -61,7 +57,7 @@ module _ {day clearing : List ℕ} {c : Counts} (o : OfFiles day clearing c) (k 
       fits-i32 (flowRow c day clearing k) (rw (← is) (omega (arith, size)))
 
   -- in a balanced clearing a net position is what the lines carry away
-  pub flow-row-is : Balanced c day clearing → k < netCount c → flowRow c day clearing k ≡ netRow c day clearing k
+  pub flow-row-is : Balanced (dayOf c day) (choiceOf c clearing) → k < netCount c → flowRow c day clearing k ≡ netRow c day clearing k
   flow-row-is b l =
       let least = o .of-clearing .limits .periods-least in
       sym (b (k / c .periods) (k % c .periods) (row-zone l least) (row-period k least))

@@ -5,11 +5,9 @@ use market::Measure;
 use market::Totals;
 use market::Trade;
 ghost use mathlib.Core.Path.{_≡_};
-ghost use mathlib.Core.Bool.{cond};
 ghost use Prim.Native.Nat.{_<_};
-ghost use lib.IntN.{pos};
-ghost use Rattle.whole.specs.Whole.{sum, above-zero};
-ghost use Rattle.market.specs.Market.{blockVolume, blockTrade};
+ghost use Rattle.whole.specs.Whole.{sum};
+ghost use Rattle.market.specs.Market.{blockVolume, blockTrade, missedOf};
 ghost use Rattle.book.specs.Of.{OfFiles};
 ghost use Rattle.totals.specs.Sums as sums;
 
@@ -186,7 +184,7 @@ pub fn whole_surplus(day: &[u8], clearing: &[u8], counts: Counts, row: usize) ->
 }
 
 fn missed_by(taken: bool, surplus: i64) -> i64
-    ensures { λ r. ⌜ r ≡ cond taken (pos 0) (above-zero surplus) ⌝ }
+    ensures { λ r. ⌜ r ≡ missedOf taken surplus ⌝ }
 {
     if !taken & (0 < surplus) { surplus } else { 0 }
 }

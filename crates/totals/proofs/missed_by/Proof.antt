@@ -1,22 +1,22 @@
 -- `totals::missed_by` meets its contract. Assumes nothing.
 use native.Mathlib.Omega.{arith}
 use mathlib.Core.Path.{_≡_, refl, sym, _∙_}
-use mathlib.Core.Bool.{Bool, true, false, not, cond, _&&_, false≢true}
+use mathlib.Core.Bool.{Bool, true, false, not, _&&_, false≢true}
 use lib.IntN.{ℤ, pos}
 use lib.Signed.{ltZ}
 use mir.Syntax.{w64}
 use mir.Val.{toZ, ofZ}
 use mir.ValLaws.{toZ-ofZ}
-use Rattle.whole.specs.Whole.{above-zero}
 use Rattle.whole.specs.Ring.{given, linear, above-zero-of-nonneg, above-zero-of-nonpos}
+use Rattle.market.specs.Market.{missedOf}
 use Rattle.totals.proofs.missed_by.Statement.{statement}
 use Rattle.totals.proofs.missed_by.Tie as tie
 
-where-missed : (taken : Bool) (surplus : ℤ) → (not taken && ltZ (pos 0) surplus) ≡ true → surplus ≡ cond taken (pos 0) (above-zero surplus)
+where-missed : (taken : Bool) (surplus : ℤ) → (not taken && ltZ (pos 0) surplus) ≡ true → surplus ≡ missedOf taken surplus
 where-missed true surplus e = absurd (false≢true e)
 where-missed false surplus e = sym (above-zero-of-nonneg surplus (given e (simp linear (omega arith))))
 
-where-none : (taken : Bool) (surplus : ℤ) → (not taken && ltZ (pos 0) surplus) ≡ false → pos 0 ≡ cond taken (pos 0) (above-zero surplus)
+where-none : (taken : Bool) (surplus : ℤ) → (not taken && ltZ (pos 0) surplus) ≡ false → pos 0 ≡ missedOf taken surplus
 where-none true surplus e = refl
 where-none false surplus e = sym (above-zero-of-nonpos surplus (given e (simp linear (omega arith))))
 
