@@ -2,5 +2,7 @@
 pub mod Files
 -- The table of cases, and that each has its outcome.
 pub mod Cases
+-- Other choices than the accepted one, and that the shortfall is needed.
+pub mod Others
 -- The errors that this trade has made, with the rule paper's numbers.
 pub mod Errors

@@ -3,17 +3,20 @@
 -- and always ends is what the gate shows of its code.
 use Prim.Native.Nat.{ℕ, _≤_}
 use native.Mathlib.Omega.{arith}
-use mathlib.Core.Path.{_≡_, sym, ap, subst, _∙_}
+use mathlib.Core.Path.{_≡_, refl, sym, ap, subst, _∙_}
 use mathlib.Core.Logic.{_↔_, _⊎_}
 use mathlib.Core.List.{List, _++_}
-use lib.IntN.{pos}
+use lib.IntN.{pos, _+ℤ_}
 use lib.ListN.{length, drop}
 use Rattle.whole.specs.Whole.{_≼_}
 use Rattle.stages.specs.Stage.{Means, place}
 use Rattle.stages.specs.declared.Place.{Place}
 use Rattle.stages.specs.declared.Fault.the-variants.{Broken}
-use Rattle.market.specs.Market.{totals}
+use Rattle.market.specs.Market.{Choice, orderValue, totals}
 use Rattle.market.specs.Rules.{number}
+use Rattle.market.specs.Other.{Allowed, SameBlocks, lawful-allowed}
+use Rattle.market.specs.Welfare.{adds-up}
+use Rattle.market.specs.Welfare as welfare
 use Rattle.market.specs.RuleLaws.{rent-nonneg, shortfall-nonneg}
 use Rattle.market.specs.declared.Rule.{Rule}
 use Rattle.market.specs.declared.Totals.{Totals}
@@ -21,7 +24,7 @@ use Rattle.day.specs.Day.{counts}
 use Rattle.day.specs.Good.{GoodDay, in-limits, prices-most}
 use Rattle.book.specs.Of.{OfFiles, of-files}
 use Rattle.book.specs.Ranges.{placed}
-use Rattle.verdict.specs.Verdict.{totalsOf, statementOf, statementLengthOf}
+use Rattle.verdict.specs.Verdict.{dayOf, pricesOf, choiceOf, totalsOf, statementOf, statementLengthOf}
 use Rattle.verdict.specs.Verdict.{stages, leaves, Checked, numberOf, placeOf, givenTotals, zeros}
 use Rattle.verdict.specs.declared.Outcome.{Outcome}
 use Rattle.verdict.specs.declared.Outcome.the-variants.{Accepted, Refused}
@@ -112,7 +115,43 @@ module _ {day clearing before : List ℕ} {outcome : Outcome} {after : List ℕ}
     unfolding totals
     shortfall-least = subst (λ (u : Totals). pos 0 ≼ u .shortfall) (passed .1) (shortfall-nonneg _ _ _)
 
--- the longest statement
+-- ==== Demand 3. Against an accepted clearing, no other choice for the same day that keeps quantities and capacities, takes blocks as
+-- allowed and balances every zone and period has an order value greater by more than the stated shortfall; with the same blocks, none
+-- greater. Buyer surplus, seller surplus and rent add up to the order value.
+
+-- `check` accepts with the totals t
+module _ {day clearing before after : List ℕ} {t : Totals} (c : Checked day clearing before (Accepted t) after) where
+  pub parts-add-up : t .buyers +ℤ t .sellers +ℤ t .rent ≡ t .value
+  unfolding totals
+  parts-add-up =
+      let h = passed c refl in
+      subst (λ (u : Totals). u .buyers +ℤ u .sellers +ℤ u .rent ≡ u .value) (h .1)
+      (adds-up _ (pricesOf day clearing) (placed (both-read c refl .of-day)) _ (h .0 .rules-hold .balance-rule))
+
+  pub no-better : (other : Choice) → Allowed (dayOf day) other → orderValue (dayOf day) other ≼ t .value +ℤ t .shortfall
+  unfolding totals
+  no-better other allowed =
+      let h = passed c refl in
+      subst (λ (u : Totals). orderValue (dayOf day) other ≼ u .value +ℤ u .shortfall) (h .1)
+      (welfare.no-better _ _ (placed (both-read c refl .of-day)) _ (h .0 .rules-hold) other allowed)
+
+  pub no-better-with-same-blocks : (other : Choice) → Allowed (dayOf day) other → SameBlocks (dayOf day) (choiceOf day clearing) other →
+      orderValue (dayOf day) other ≼ t .value
+  unfolding totals
+  no-better-with-same-blocks other allowed same =
+      let h = passed c refl in
+      subst (λ (u : Totals). orderValue (dayOf day) other ≼ u .value) (h .1)
+      (welfare.no-better-with-same-blocks _ _ (placed (both-read c refl .of-day)) _ (h .0 .rules-hold) other allowed same)
+
+  -- the accepted choice is itself one of these, and t's order value is its own
+  pub itself-allowed : Allowed (dayOf day) (choiceOf day clearing) × (orderValue (dayOf day) (choiceOf day clearing) ≡ t .value)
+  unfolding totals
+  itself-allowed =
+      let h = passed c refl in
+      (lawful-allowed _ _ _ (h .0 .rules-hold), ap (λ (u : Totals). u .value) (h .1))
+
+-- ==== the longest statement, and one outcome for each input
+
 pub longest-statement : {day : List ℕ} → GoodDay day → statementLengthOf day ≤ 852
 longest-statement g = omega (arith, prices-most (in-limits g))
 

@@ -10,7 +10,7 @@ use Rattle.whole.specs.Whole.{_≼_, _≺_, above-zero, sum}
 use Rattle.whole.specs.Ring.{given, linear, ring, leZ-true, leZ-false, ≼-refl, ≼-antisym, ≼-or-<, *-nonneg, above-zero-nonneg}
 use Rattle.whole.specs.Sums.{sums, sum-nonneg}
 use Rattle.stages.specs.First.{both, apart, leb-is, eqb-is}
-use Rattle.stages.specs.Stage.{Holds, Means}
+use Rattle.stages.specs.Stage.{Holds, Means, means, firstFault}
 use Rattle.stages.specs.declared.Fault.the-variants.{Clean}
 use Rattle.market.specs.Market.{Day, Choice, Prices, wholeSurplus, rent, missedOf, shortfall}
 use Rattle.market.specs.Other.{Allowed}
@@ -107,13 +107,15 @@ module _ (d : Day) (p : Prices) (c : Choice) where
     ),
   )
 
-  -- a choice is allowed where the tests pass that ask no price
-  pub tests-allow : Means (ruleStage d p c Capacity ∷ ruleStage d p c Quantity ∷ ruleStage d p c Balance ∷ []) Clean → Allowed d c
-  tests-allow m = record {
-    quantities = λ i l. rule-holds Quantity .0 (m .1 .0) i 0 l (omega arith);
-    capacities = rule-holds Capacity .0 (m .0);
-    balance = rule-holds Balance .0 (m .1 .1 .0);
-  }
+  -- a choice is allowed where the tests pass that speak of no price
+  pub tests-allow : firstFault (ruleStage d p c Capacity ∷ ruleStage d p c Quantity ∷ ruleStage d p c Balance ∷ []) ≡ Clean → Allowed d c
+  tests-allow e =
+      let m = means (ruleStage d p c Capacity ∷ ruleStage d p c Quantity ∷ ruleStage d p c Balance ∷ []) Clean .0 e in
+      record {
+        quantities = λ i l. rule-holds Quantity .0 (m .1 .0) i 0 l (omega arith);
+        capacities = rule-holds Capacity .0 (m .0);
+        balance = rule-holds Balance .0 (m .1 .1 .0);
+      }
 
 -- ---- what follows
 
