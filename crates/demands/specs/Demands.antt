@@ -1,6 +1,6 @@
 -- The demands on the checker, as theorems about `check(day, clearing, room)`. Each is about any three byte strings; none assumes anything
--- but what the contract of `check` says, which is the record `Checked` (crate verdict, specs/Verdict). That `check` has no `requires`
--- and always ends is what the gate shows of its code.
+-- but what the contract of `check` says, which is the record `Checked` (crate verdict, specs/Verdict), and, in demand 3, that the other
+-- choice is allowed (crate market, specs/Other). That `check` has no `requires` and always ends is what the gate shows of its code.
 use Prim.Native.Nat.{ℕ, _≤_}
 use native.Mathlib.Omega.{arith}
 use mathlib.Core.Path.{_≡_, refl, sym, ap, subst, _∙_}
@@ -13,9 +13,9 @@ use Rattle.stages.specs.Stage.{Means, place}
 use Rattle.stages.specs.declared.Place.{Place}
 use Rattle.stages.specs.declared.Fault.the-variants.{Broken}
 use Rattle.market.specs.Market.{Choice, orderValue, totals}
-use Rattle.market.specs.Rules.{number}
+use Rattle.market.specs.Rules.{Lawful, number}
 use Rattle.market.specs.Other.{Allowed, SameBlocks, lawful-allowed}
-use Rattle.market.specs.Welfare.{adds-up}
+use Rattle.market.specs.Range.{Placed}
 use Rattle.market.specs.Welfare as welfare
 use Rattle.market.specs.RuleLaws.{rent-nonneg, shortfall-nonneg}
 use Rattle.market.specs.declared.Rule.{Rule}
@@ -80,75 +80,75 @@ module _ {day clearing before : List ℕ} {outcome : Outcome} {after : List ℕ}
   pub acceptance-writes : {t : Totals} → outcome ≡ Accepted t → after ≡ statementOf day clearing ++ drop (statementLengthOf day) before
   acceptance-writes e = c .left ∙ ap (λ (o : Outcome). leaves day clearing o before) e
 
-  module _ {t : Totals} (accepts : outcome ≡ Accepted t) where
-    -- what it tells of the two files
-    passed : Passes day clearing (length before) × (totalsOf day clearing ≡ t)
-    passed = accepted-exactly t .0 accepts
-
-    both-read : OfFiles day clearing (counts day)
-    both-read = of-files (passed .0 .day-reads) (passed .0 .clearing-reads)
-
-    pub stated : Stated day clearing before t after
-    stated =
-        let rest = drop (statementLengthOf day) before in
-        subst (Stated day clearing before t) (sym (acceptance-writes accepts)) (record {
-          totals-are = sym (passed .1);
-          six = six-stated both-read rest;
-          value-at = value-stated both-read rest;
-          buyers-at = buyers-stated both-read rest;
-          sellers-at = sellers-stated both-read rest;
-          rent-at = rent-stated both-read rest;
-          traded-at = traded-stated both-read rest;
-          shortfall-at = shortfall-stated both-read rest;
-          count-at = count-stated both-read rest;
-          net-at = net-stated both-read rest (passed .0 .rules-hold);
-          behind = behind-stays day clearing before (passed .0 .room-suffices);
-          same-length = length-stays day clearing before (passed .0 .room-suffices);
-        })
-
-    -- the rent and the shortfall are never below zero
-    pub rent-least : pos 0 ≼ t .rent
-    unfolding totals
-    rent-least = subst (λ (u : Totals). pos 0 ≼ u .rent) (passed .1) (rent-nonneg _ _ _ (placed (both-read .of-day)) (passed .0 .rules-hold))
-
-    pub shortfall-least : pos 0 ≼ t .shortfall
-    unfolding totals
-    shortfall-least = subst (λ (u : Totals). pos 0 ≼ u .shortfall) (passed .1) (shortfall-nonneg _ _ _)
-
--- ==== Demand 3. Against an accepted clearing, no other choice for the same day that keeps quantities and capacities, takes blocks as
--- allowed and balances every zone and period has an order value greater by more than the stated shortfall; with the same blocks, none
--- greater. Buyer surplus, seller surplus and rent add up to the order value.
-
--- `check` accepts with the totals t
+-- a call that accepts, with the totals t
 module _ {day clearing before after : List ℕ} {t : Totals} (c : Checked day clearing before (Accepted t) after) where
-  pub parts-add-up : t .buyers +ℤ t .sellers +ℤ t .rent ≡ t .value
+  passed : Passes day clearing (length before) × (totalsOf day clearing ≡ t)
+  passed = accepted-exactly c t .0 refl
+
+  both-read : OfFiles day clearing (counts day)
+  both-read = of-files (passed .0 .day-reads) (passed .0 .clearing-reads)
+
+  in-place : Placed (dayOf day)
+  in-place = placed (both-read .of-day)
+
+  lawful : Lawful (dayOf day) (pricesOf day clearing) (choiceOf day clearing)
+  lawful = passed .0 .rules-hold
+
+  -- what holds of the defined totals holds of t
+  of-t : (P : Totals → Type 0) → P (totals (dayOf day) (pricesOf day clearing) (choiceOf day clearing)) → P t
+  of-t P = subst P (passed .1)
+
+  pub stated : Stated day clearing before t after
+  stated =
+      let rest = drop (statementLengthOf day) before in
+      subst (Stated day clearing before t) (sym (acceptance-writes c refl)) (record {
+        totals-are = sym (passed .1);
+        six = six-stated both-read rest;
+        value-at = value-stated both-read rest;
+        buyers-at = buyers-stated both-read rest;
+        sellers-at = sellers-stated both-read rest;
+        rent-at = rent-stated both-read rest;
+        traded-at = traded-stated both-read rest;
+        shortfall-at = shortfall-stated both-read rest;
+        count-at = count-stated both-read rest;
+        net-at = net-stated both-read rest lawful;
+        behind = behind-stays day clearing before (passed .0 .room-suffices);
+        same-length = length-stays day clearing before (passed .0 .room-suffices);
+      })
+
+  -- the rent and the shortfall are never below zero
+  pub rent-least : pos 0 ≼ t .rent
   unfolding totals
-  parts-add-up =
-      let h = passed c refl in
-      subst (λ (u : Totals). u .buyers +ℤ u .sellers +ℤ u .rent ≡ u .value) (h .1)
-      (adds-up _ (pricesOf day clearing) (placed (both-read c refl .of-day)) _ (h .0 .rules-hold .balance-rule))
+  rent-least = of-t (λ u. pos 0 ≼ u .rent) (rent-nonneg _ _ _ in-place lawful)
+
+  pub shortfall-least : pos 0 ≼ t .shortfall
+  unfolding totals
+  shortfall-least = of-t (λ u. pos 0 ≼ u .shortfall) (shortfall-nonneg _ _ _)
+
+  -- ==== Demand 3. No other choice for the same day that keeps quantities and capacities, takes blocks as allowed and balances every zone
+  -- and period has an order value greater by more than the stated shortfall; with the same blocks, none greater. Buyer surplus, seller
+  -- surplus and rent add up to the order value.
 
   pub no-better : (other : Choice) → Allowed (dayOf day) other → orderValue (dayOf day) other ≼ t .value +ℤ t .shortfall
   unfolding totals
   no-better other allowed =
-      let h = passed c refl in
-      subst (λ (u : Totals). orderValue (dayOf day) other ≼ u .value +ℤ u .shortfall) (h .1)
-      (welfare.no-better _ _ (placed (both-read c refl .of-day)) _ (h .0 .rules-hold) other allowed)
+      of-t (λ u. orderValue (dayOf day) other ≼ u .value +ℤ u .shortfall) (welfare.no-better _ _ in-place _ lawful other allowed)
 
   pub no-better-with-same-blocks : (other : Choice) → Allowed (dayOf day) other → SameBlocks (dayOf day) (choiceOf day clearing) other →
       orderValue (dayOf day) other ≼ t .value
   unfolding totals
   no-better-with-same-blocks other allowed same =
-      let h = passed c refl in
-      subst (λ (u : Totals). orderValue (dayOf day) other ≼ u .value) (h .1)
-      (welfare.no-better-with-same-blocks _ _ (placed (both-read c refl .of-day)) _ (h .0 .rules-hold) other allowed same)
+      of-t (λ u. orderValue (dayOf day) other ≼ u .value) (welfare.no-better-with-same-blocks _ _ in-place _ lawful other allowed same)
 
-  -- the accepted choice is itself one of these, and t's order value is its own
+  pub parts-add-up : t .buyers +ℤ t .sellers +ℤ t .rent ≡ t .value
+  unfolding totals
+  parts-add-up =
+      of-t (λ u. u .buyers +ℤ u .sellers +ℤ u .rent ≡ u .value) (welfare.adds-up _ (pricesOf day clearing) in-place _ (lawful .balance-rule))
+
+  -- the accepted choice is itself allowed, and t's order value is its own
   pub itself-allowed : Allowed (dayOf day) (choiceOf day clearing) × (orderValue (dayOf day) (choiceOf day clearing) ≡ t .value)
   unfolding totals
-  itself-allowed =
-      let h = passed c refl in
-      (lawful-allowed _ _ _ (h .0 .rules-hold), ap (λ (u : Totals). u .value) (h .1))
+  itself-allowed = (lawful-allowed _ _ _ lawful, of-t (λ u. orderValue (dayOf day) (choiceOf day clearing) ≡ u .value) refl)
 
 -- ==== the longest statement, and one outcome for each input
 
