@@ -1,12 +1,12 @@
 -- The sums of what is counted are the totals and the net positions; and how large they, and the sums a loop meets on the way, can be.
 -- Assumes nothing.
-use Prim.Native.Nat.{ℕ, _*_, _<_, _≤_}
+use Prim.Native.Nat.{ℕ, _<_, _≤_}
 use native.Mathlib.Nat.{le-trans, le-refl}
 use native.Mathlib.Omega.{arith}
 use mathlib.Core.Path.{_≡_, refl, sym, _∙_}
-use mathlib.Core.Bool.{Bool, true, false, cond}
+use mathlib.Core.Bool.{Bool, true, false}
 use lib.IntN.{ℤ, pos, negℤ, natAbs, _+ℤ_, _-ℤ_, _*ℤ_}
-use Rattle.whole.specs.Whole.{above-zero, sum, at}
+use Rattle.whole.specs.Whole.{sum, at}
 use Rattle.whole.specs.Ring.{linear, ring}
 use Rattle.whole.specs.Sums.{sums, sum-cong}
 use Rattle.whole.specs.Size.{abs-neg, abs--, abs-*-≤, at-size, above-zero-size, sum-within}

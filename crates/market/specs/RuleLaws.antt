@@ -3,12 +3,12 @@ use Prim.Native.Nat.{ℕ, _<_}
 use native.Mathlib.Omega.{arith}
 use mathlib.Core.Path.{_≡_, refl}
 use mathlib.Core.Logic.{_↔_, _⊎_, inl, inr, Iff·rfl}
-use mathlib.Core.Bool.{Bool, true, false, cond, _||_, not}
+use mathlib.Core.Bool.{Bool, true, false, _||_, not}
 use mathlib.Core.List.{[], _∷_}
 use lib.IntN.{ℤ, pos, negℤ, _-ℤ_, _*ℤ_}
-use Rattle.whole.specs.Whole.{_≼_, _≺_, above-zero, sum}
+use Rattle.whole.specs.Whole.{_≼_, _≺_}
 use Rattle.whole.specs.Ring.{given, linear, ring, leZ-true, leZ-false, ≼-refl, ≼-antisym, ≼-or-<, *-nonneg, above-zero-nonneg}
-use Rattle.whole.specs.Sums.{sums, sum-nonneg}
+use Rattle.whole.specs.Sums.{sum-nonneg}
 use Rattle.stages.specs.First.{both, apart, leb-is, eqb-is}
 use Rattle.stages.specs.Stage.{Holds, Means, means, firstFault}
 use Rattle.stages.specs.declared.Fault.the-variants.{Clean}
@@ -16,7 +16,7 @@ use Rattle.market.specs.Market.{Day, Choice, Prices, wholeSurplus, rent,
 use Rattle.market.specs.Other.{Allowed}
 use Rattle.market.specs.Range.{Placed}
 use Rattle.market.specs.Margins.{pays-is}
-use Rattle.market.specs.Rules.{InTheMoney, OutOfTheMoney, Pays, Lawful, equal, stepOk, lineOk, blockOk, test, Obeys}
+use Rattle.market.specs.Rules.{InTheMoney, OutOfTheMoney, Lawful, equal, stepOk, lineOk, blockOk, test, Obeys}
 use Rattle.market.specs.Rules.{rows, columns, ruleStage, ruleStages}
 use Rattle.market.specs.declared.Side.{Side}
 use Rattle.market.specs.declared.Side.the-variants.{Sell, Buy}
