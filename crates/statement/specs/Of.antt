@@ -10,6 +10,7 @@ use mir.Syntax.{w32}
 use mir.Val.{SFits}
 use Rattle.whole.specs.Size.{fits-i32}
 use Rattle.market.specs.Market.{netPosition}
+use Rattle.market.specs.declared.Totals.{Totals}
 use Rattle.market.specs.Rules.{Balanced}
 use Rattle.market.specs.MeasureLaws.{flows-size, net-flow-is}
 use Rattle.day.specs.declared.Counts.{Counts}
@@ -17,6 +18,7 @@ use Rattle.book.specs.Book.{dayOf, pricesOf, choiceOf}
 use Rattle.book.specs.Of.{OfFiles}
 use Rattle.book.specs.Ranges.{placed, ranged}
 use Rattle.totals.specs.Sums.{netFlow}
+use Rattle.statement.specs.Statement.{statement}
 
 -- so many net positions
 abbrev pub netCount : Counts → ℕ
@@ -29,6 +31,10 @@ inRow periods f k = f (k / periods) (k % periods)
 module _ (c : Counts) (day clearing : List ℕ) where
   abbrev pub netRow : ℕ → ℤ
   netRow = inRow (c .periods) (netPosition (dayOf c day) (choiceOf c clearing))
+
+  -- the statement with these totals
+  abbrev pub statementWith : Totals → List ℕ
+  statementWith totals = statement totals netRow (netCount c)
 
   -- what the lines carry away, in the same rows
   abbrev pub flowRow : ℕ → ℤ

@@ -11,8 +11,8 @@ ghost use Rattle.day.specs.Good.{InLimits};
 ghost use Rattle.market.specs.Rules.{Balanced};
 ghost use Rattle.book.specs.Book.{dayOf, choiceOf};
 ghost use Rattle.book.specs.Of.{OfFiles};
-ghost use Rattle.statement.specs.Statement.{head, nets, statement, statementLength};
-ghost use Rattle.statement.specs.Of.{netCount, flowRow, netRow};
+ghost use Rattle.statement.specs.Statement.{head, nets, statementLength};
+ghost use Rattle.statement.specs.Of.{netCount, flowRow, statementWith};
 
 fn put_head(room: &mut [u8], totals: Totals, count: u16)
     requires { ⌜ 52 ≤ length (now room) ⌝ }
@@ -77,7 +77,7 @@ fn count_of(counts: Counts) -> u16
 pub fn put_statement(room: &mut [u8], day: &[u8], clearing: &[u8], counts: Counts, totals: Totals)
     requires { ⌜ (OfFiles (now day) (now clearing) counts) × (statementLength (netCount counts) ≤ length (now room)) ⌝ }
     requires { ⌜ Balanced (dayOf counts (now day)) (choiceOf counts (now clearing)) ⌝ }
-    ensures { λ r. ⌜ now (room .exit) ≡ put (now (room .entry)) 0 (statement totals (netRow counts (now (day .entry)) (now (clearing .entry))) (netCount counts)) ⌝ }
+    ensures { λ r. ⌜ now (room .exit) ≡ put (now (room .entry)) 0 (statementWith counts (now (day .entry)) (now (clearing .entry)) totals) ⌝ }
 {
     put_head(room, totals, count_of(counts));
     put_nets(room, day, clearing, counts);

@@ -13,8 +13,8 @@ use Rattle.market.specs.declared.Totals.{Totals}
 use Rattle.day.specs.Day.{counts}
 use Rattle.clearing.specs.Clearing.{fileStages}
 use Rattle.book.specs.Book as book
-use Rattle.statement.specs.Statement.{statement, statementLength}
-use Rattle.statement.specs.Of.{netCount, netRow}
+use Rattle.statement.specs.Statement.{statementLength}
+use Rattle.statement.specs.Of.{netCount, statementWith}
 use Rattle.verdict.specs.declared.Outcome.{Outcome}
 use Rattle.verdict.specs.declared.Outcome.the-variants.{Accepted, Refused}
 
@@ -34,7 +34,7 @@ totalsOf day clearing = totals (dayOf day) (pricesOf day clearing) (choiceOf day
 
 -- the statement's bytes, and how many they are
 abbrev pub statementOf : List ℕ → List ℕ → List ℕ
-statementOf day clearing = statement (totalsOf day clearing) (netRow (counts day) day clearing) (netCount (counts day))
+statementOf day clearing = statementWith (counts day) day clearing (totalsOf day clearing)
 
 abbrev pub statementLengthOf : List ℕ → ℕ
 statementLengthOf day = statementLength (netCount (counts day))
