@@ -7,11 +7,12 @@ use mathlib.Core.Logic.{_⊎_, inl, inr}
 use Rattle.market.specs.Market.{Day, Choice, Prices, blockVolume}
 use Rattle.market.specs.Rules.{KeepsQuantities, KeepsCapacities, Balanced, Lawful}
 
--- It keeps the order quantities and the line capacities and balances every zone in every period. It takes each block whole or not at all,
--- since `taken` can say nothing else: `whole-or-none` below. Rules 11, 15, 16 and 17, which speak of prices, are not asked of it.
+-- It keeps the order quantities and the line capacities, takes each block whole or not at all, and balances every zone in every period.
+-- Rules 11, 15, 16 and 17, which speak of prices, are not asked of it.
 pub record Allowed (d : Day) (c : Choice) : Type 0 where
   pub quantities : KeepsQuantities d c
   pub capacities : KeepsCapacities d c
+  -- and the blocks: `taken` can say nothing but whole or not at all (`whole-or-none` below)
   pub balance : Balanced d c
 
 -- it takes the same blocks
