@@ -74,7 +74,6 @@ module _ (day clearing : List ℕ) (room : ℕ) where
     λ l. (λ z i _ _. le-leb (statementLengthOf day) room l, tt),
   )
 
-  -- all stages are clean just where the files read, the rules hold and the room suffices
   -- no stage has a fault just where the files read, the rules hold and the room suffices
   passes-is : Means (stages day clearing room) Clean ↔ Passes day clearing room
   passes-is =

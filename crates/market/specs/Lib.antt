@@ -10,7 +10,7 @@ pub mod Range
 pub mod Margins
 -- What steps, blocks and lines share: a value, what it brings to each zone and period, a surplus; and that these add up.
 pub mod Items
--- That a step, a line and a block is each priced and best.
+-- That steps, lines and blocks are priced and best.
 pub mod Kinds
 -- That no other choice is worth more, but for the shortfall, and that the surpluses and the rent add up to the order value.
 pub mod Welfare

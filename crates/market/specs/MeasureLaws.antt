@@ -74,10 +74,9 @@ module _ (d : Day) (p : Prices) (c : Choice) where
   unfolding accepted stepMeasured blockMeasured
   accepted-is m = refl
 
-  pub net-flow-is : (zone period : ℕ) →
-      sum (d .lines) (lineLeaves d c zone period)
-      ≡ leaving d c zone period -ℤ entering d c zone period
-  net-flow-is zone period = simp sums (simp linear (omega arith))
+pub net-flow-is : (d : Day) (c : Choice) (zone period : ℕ) →
+    sum (d .lines) (lineLeaves d c zone period) ≡ leaving d c zone period -ℤ entering d c zone period
+net-flow-is d c zone period = simp sums (simp linear (omega arith))
 
 module _ (d : Day) (p : Prices) where
   pub whole-is : (k : ℕ) → blockMeasured d p Surplus k true ≡ wholeSurplus d p k

@@ -14,7 +14,7 @@ use Rattle.market.specs.declared.Totals.{Totals}
 use Rattle.market.specs.Rules.{Balanced}
 use Rattle.market.specs.MeasureLaws.{flows-size, net-flow-is}
 use Rattle.day.specs.declared.Counts.{Counts}
-use Rattle.book.specs.Book.{dayOf, pricesOf, choiceOf}
+use Rattle.book.specs.Book.{dayOf, choiceOf}
 use Rattle.book.specs.Of.{OfFiles}
 use Rattle.book.specs.Ranges.{placed, ranged}
 use Rattle.totals.specs.Sums.{netFlow}
@@ -59,7 +59,7 @@ module _ {day clearing : List ℕ} {c : Counts} (o : OfFiles day clearing c) (k 
       let h = c .periods in
       let below = row-period k (o .of-clearing .limits .periods-least) in
       let size = flows-size _ _ _ (placed (o .of-day)) (ranged o) (c .lines) (k / h) (k % h) (le-refl (c .lines)) below in
-      let is = net-flow-is (dayOf c day) (pricesOf c clearing) (choiceOf c clearing) (k / h) (k % h) in
+      let is = net-flow-is (dayOf c day) (choiceOf c clearing) (k / h) (k % h) in
       fits-i32 (flowRow c day clearing k) (rw (← is) (omega (arith, size)))
 
   -- in a balanced clearing a net position is what the lines carry away

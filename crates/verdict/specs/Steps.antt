@@ -22,9 +22,9 @@ use Rattle.book.specs.Book as book
 use Rattle.book.specs.Of.{OfFiles, of-files}
 use Rattle.totals.specs.Sums as sums
 use Rattle.rules.specs.Judge as rules
-use Rattle.statement.specs.Statement.{statement, statementLength}
+use Rattle.statement.specs.Statement.{statementLength}
 use Rattle.statement.specs.Laws.{fills}
-use Rattle.statement.specs.Of.{netCount, netRow}
+use Rattle.statement.specs.Of.{netCount, netRow, statementWith}
 use Rattle.verdict.specs.Verdict.{dayOf, pricesOf, choiceOf, totalsOf, statementOf, statementLengthOf, roomStage, stages, verdict}
 use Rattle.verdict.specs.declared.Outcome.{Outcome}
 use Rattle.verdict.specs.declared.Outcome.the-variants.{Accepted, Refused}
@@ -104,11 +104,11 @@ module _ {day clearing : List ℕ} {c : Counts} (o : OfFiles day clearing c) whe
 
   -- the statement fills the part that is lent for it, and the bytes behind the part are as they were
   pub left-in : (room part : List ℕ) (n : ℕ) {t : Totals} → n ≡ statementLength (netCount c) → n ≤ length room → t ≡ sums.totals c day clearing →
-      part ≡ put (take n room) 0 (statement t (netRow c day clearing) (netCount c)) →
+      part ≡ put (take n room) 0 (statementWith c day clearing t) →
       part ++ drop n room ≡ statementOf day clearing ++ drop (statementLengthOf day) room
   left-in room part n {t} m l e q =
       in-hand (λ (k : Counts). n ≡ statementLength (netCount k) → t ≡ sums.totals k day clearing →
-      part ≡ statement t (netRow k day clearing) (netCount k) →
+      part ≡ statementWith k day clearing t →
       part ++ drop n room ≡ statementOf day clearing ++ drop (statementLengthOf day) room)
       (λ m e q. rw (q, e, m)) m e
       (q ∙ fills t (netRow c day clearing) (netCount c) (take n room) (length-take-le n room l ∙ m))

@@ -4,7 +4,7 @@ use native.Mathlib.Omega.{arith}
 use mathlib.Core.Path.{_∙_}
 use denote.Ref.{now}
 use Rattle.market.specs.MeasureLaws.{flows-size, net-flow-is}
-use Rattle.book.specs.Book.{dayOf, pricesOf, choiceOf}
+use Rattle.book.specs.Book.{dayOf, choiceOf}
 use Rattle.book.specs.Ranges.{placed, ranged}
 use Rattle.totals.specs.Sums.{lineLeaves}
 use Rattle.totals.specs.Loops.{Summed, none-summed, more-fits, more-summed, all-summed}
@@ -47,7 +47,7 @@ returns c =
     let a = c .before .before .before .before .args in
     let n = a .counts in
     all-summed (c .before .loop .inv) (c .loop-test .left)
-    ∙ net-flow-is (dayOf n (now (a .day))) (pricesOf n (now (a .clearing))) (choiceOf n (now (a .clearing))) _ _
+    ∙ net-flow-is (dayOf n (now (a .day))) (choiceOf n (now (a .clearing))) _ _
 
 pub net-flow-spec : {M : Type 1} → statement M
 net-flow-spec =
