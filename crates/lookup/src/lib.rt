@@ -105,3 +105,36 @@ pub fn look_up_fault(day: &[u8], section: usize) -> Fault
         DayFile::Good(_) => Fault::Clean,
     }
 }
+
+// Where the rows of a section start in the file.
+fn rows_start(day: &[u8], section: usize, counts: Counts) -> usize
+    requires { ⌜ OfDay (now day) counts ⌝ }
+    ensures { λ r. ⌜ r ≡ rowsAt section (now (day .entry)) ⌝ }
+{
+    if section == 1 {
+        return 2;
+    }
+    if section == 2 {
+        return 2 + (day.len() - parts::zones_part(day, counts).len());
+    }
+    if section == 3 {
+        return 2 + (day.len() - parts::lines_part(day, counts).len());
+    }
+    if section == 4 {
+        return 2 + (day.len() - parts::steps_part(day, counts).len());
+    }
+    if section == 5 {
+        return 2 + (day.len() - parts::blocks_part(day, counts).len());
+    }
+    0
+}
+
+// Where the look-up's part of any bytes starts in them; 0 where it is refused.
+pub fn look_up_start(day: &[u8], section: usize) -> usize
+    ensures { λ r. ⌜ r ≡ lookUpAt section (now (day .entry)) ⌝ }
+{
+    match read_for(day, section) {
+        DayFile::Bad(_, _) => 0,
+        DayFile::Good(counts) => rows_start(day, section, counts),
+    }
+}

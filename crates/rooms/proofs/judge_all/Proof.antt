@@ -1,9 +1,9 @@
--- `verdicts::judge_all` is safe. Assumes nothing.
+-- `rooms::judge_all` is safe. Assumes nothing.
 use Prim.Native.Nat.{_-_, _≤_}
 use native.Mathlib.Omega.{arith}
 use borrow.Author.Needs.{needs}
-use Rattle.verdicts.proofs.judge_all.Statement.{statement}
-use Rattle.verdicts.proofs.judge_all.Tie as tie
+use Rattle.rooms.proofs.judge_all.Statement.{statement}
+use Rattle.rooms.proofs.judge_all.Tie as tie
 
 abbrev Inv-loop : tie.InvT-loop
 Inv-loop file counter₀ counter = counter ≤ 2000

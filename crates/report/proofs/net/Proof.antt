@@ -1,9 +1,9 @@
--- `verdicts::say_net` is safe. Assumes nothing.
+-- `report::net` is safe. Assumes nothing.
 use native.Mathlib.Nat.{div-le-self}
 use native.Mathlib.Omega.{arith}
 use borrow.Author.Needs.{needs}
-use Rattle.verdicts.proofs.say_net.Statement.{statement}
-use Rattle.verdicts.proofs.say_net.Tie as tie
+use Rattle.report.proofs.net.Statement.{statement}
+use Rattle.report.proofs.net.Tie as tie
 
 slice-aggregate-say : tie.Need-slice-aggregate-say
 slice-aggregate-say c = search needs
@@ -20,8 +20,8 @@ mul-u16-or-zero c = let s = c .before .before .before .before in record { fits =
 u16-or-zero-requires : tie.Need-u16-or-zero-requires
 u16-or-zero-requires c κs = search needs
 
-say-number-requires : tie.Need-say-number-requires
-say-number-requires c κs = search needs
+number-requires : tie.Need-number-requires
+number-requires c κs = search needs
 
 slice-aggregate-say-2 : tie.Need-slice-aggregate-say-2
 slice-aggregate-say-2 c = search needs
@@ -29,11 +29,11 @@ slice-aggregate-say-2 c = search needs
 say-requires-2 : tie.Need-say-requires-2
 say-requires-2 c κs = search needs
 
-rem-say-number : tie.Need-rem-say-number
-rem-say-number c = search needs
+rem-number : tie.Need-rem-number
+rem-number c = search needs
 
-say-number-requires-2 : tie.Need-say-number-requires-2
-say-number-requires-2 c κs = search needs
+number-requires-2 : tie.Need-number-requires-2
+number-requires-2 c κs = search needs
 
 slice-aggregate-say-3 : tie.Need-slice-aggregate-say-3
 slice-aggregate-say-3 c = search needs
@@ -62,8 +62,8 @@ say-requires-4 c κs = search needs
 returns : tie.Need-returns
 returns c = search needs
 
-pub say-net-spec : {M : Type 1} → statement M
-say-net-spec =
+pub net-spec : {M : Type 1} → statement M
+net-spec =
     tie.close
     (tie.spec
     slice-aggregate-say
@@ -71,11 +71,11 @@ say-net-spec =
     div-u16-or-zero
     mul-u16-or-zero
     u16-or-zero-requires
-    say-number-requires
+    number-requires
     slice-aggregate-say-2
     say-requires-2
-    rem-say-number
-    say-number-requires-2
+    rem-number
+    number-requires-2
     slice-aggregate-say-3
     say-requires-3
     mul-i32-or-zero

@@ -1,0 +1,2 @@
+-- A buffer that is written in full.
+pub mod Written

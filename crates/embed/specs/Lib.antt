@@ -1,0 +1,2 @@
+-- What each function for other languages gives.
+pub mod Surface

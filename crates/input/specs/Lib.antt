@@ -1,0 +1,2 @@
+-- What a reading may say of a buffer.
+pub mod Within

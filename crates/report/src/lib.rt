@@ -1,0 +1,114 @@
+// An outcome on standard output: the verdict's number and place; where it is accepted the six totals and the net positions too.
+use libc::STDOUT_FILENO;
+use market::Totals;
+use stages::Place;
+use verdict::Outcome;
+ghost use mathlib.Core.Path.{_≡_};
+ghost use Prim.Native.Nat.{_<_};
+
+pub fn say(text: &[u8]) {
+    io::write_all(STDOUT_FILENO, text);
+}
+
+fn number(n: usize) {
+    io::print_decimal(STDOUT_FILENO, n as u64);
+}
+
+// ---- the verdict and the totals
+
+fn verdict(kind: u8, place: Place) {
+    say(b"verdict ");
+    number(kind as usize);
+    say(b" ");
+    number(place.first);
+    say(b" ");
+    number(place.second);
+    say(b"\n");
+}
+
+fn total(name: &[u8], v: i64) {
+    say(name);
+    print::signed(v);
+    say(b"\n");
+}
+
+fn totals(t: Totals) {
+    total(b"order value ", t.value);
+    total(b"buyers ", t.buyers);
+    total(b"sellers ", t.sellers);
+    total(b"rent ", t.rent);
+    total(b"traded ", t.traded);
+    total(b"shortfall ", t.shortfall);
+}
+
+// ---- the net positions, as the statement in the room has them
+
+fn u16_or_zero(s: &[u8], at: usize) -> usize
+    ensures { λ r. ⌜ r < 65536 ⌝ }
+{
+    if 2 <= s.len() {
+        if at <= s.len() - 2 {
+            return wire::u16_at(s, at);
+        }
+    }
+    0
+}
+
+fn i32_or_zero(s: &[u8], at: usize) -> i64 {
+    if 4 <= s.len() {
+        if at <= s.len() - 4 {
+            return wire::i32_at(s, at);
+        }
+    }
+    0
+}
+
+fn net(codes: &[u8], room: &[u8], periods: usize, k: usize)
+    requires { ⌜ (0 < periods) × (k < 65536) ⌝ }
+{
+    say(b"net ");
+    number(u16_or_zero(codes, 2 * (k / periods)));
+    say(b" ");
+    number(k % periods);
+    say(b" ");
+    print::signed(i32_or_zero(room, 52 + 4 * k));
+    say(b"\n");
+}
+
+fn nets(codes: &[u8], room: &[u8], periods: usize) {
+    if 0 < periods {
+        for k in 0..u16_or_zero(room, 50) {
+            net(codes, room, periods, k);
+        }
+    }
+}
+
+// ---- the outcome of a check of a day file, and the room that was lent to it
+
+pub fn outcome(outcome: Outcome, day: &[u8], room: &[u8]) {
+    match outcome {
+        Outcome::Refused(kind, place) => verdict(kind, place),
+        Outcome::Accepted(t) => {
+            verdict(
+                0,
+                Place {
+                    first: 0,
+                    second: 0,
+                },
+            );
+            totals(t);
+            nets(
+                lookup::look_up(day, 2),
+                room,
+                lookup::look_up(day, 1).len() / 8,
+            );
+        }
+    }
+}
+
+// Judges two files in a room that every statement fits.
+pub fn judged(day: &[u8], clearing: &[u8]) {
+    let mut room = [0u8; 852];
+    let judged = verdict::check(day, clearing, &mut room);
+    outcome(judged, day, &room);
+}
