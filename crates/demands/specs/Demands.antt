@@ -155,6 +155,13 @@ module _ {day clearing before after : List ℕ} {t : Totals} (c : Checked day cl
 pub longest-statement : {day : List ℕ} → GoodDay day → statementLengthOf day ≤ 852
 longest-statement g = omega (arith, prices-most (in-limits g))
 
+-- a room as long as that is never too short
+pub long-room : {day clearing before after : List ℕ} {outcome : Outcome} → Checked day clearing before outcome after → 852 ≤ length before →
+    outcome ≡ Refused 18 (place 0 0) → ⊥
+long-room c l e =
+    let short = refused-by-room c .0 e in
+    omega (arith, l, short .room-lacks, longest-statement (short .day-reads))
+
 -- two calls with the same files and the same room have the same outcome and leave the same room
 pub one-outcome : {day clearing before : List ℕ} {o o′ : Outcome} {a a′ : List ℕ} →
     Checked day clearing before o a → Checked day clearing before o′ a′ → (o ≡ o′) × (a ≡ a′)
