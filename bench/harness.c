@@ -1,0 +1,206 @@
+/* Runs a checker for bench/measure:
+     harness verdicts NAME <PAIRS                judges framed pairs, prints as the program does, tries rooms
+     harness calls NAME DAY CLEARING COUNT       judges one pair COUNT times, for counting instructions
+     harness times NAME NAME DAY CLEARING COUNT  times both on one pair, COUNT rounds in turn */
+#include <stddef.h>
+#include <stdint.h>
+#include <stdio.h>
+#include <stdlib.h>
+#include <string.h>
+#include <time.h>
+
+#include "rival.h"
+
+typedef uint8_t check(const uint8_t *, size_t, const uint8_t *, size_t, uint8_t *, size_t, size_t *, size_t);
+check ayinzhad_check, floor_check;
+
+static const struct checker {
+    const char *name;
+    check *check;
+} checkers[] = {{"ayinzhad", ayinzhad_check}, {"rival", rival_check}, {"floor", floor_check}};
+
+/* A file is cut at MOST bytes, longer than any that reads without fault; no statement is longer than ROOM. */
+enum { MOST = 65536, PERIODS = 25, TOTALS = 6, HEAD = 4 + 8 * TOTALS, ROOM = 852, BEHIND = 16 };
+
+struct file {
+    uint8_t bytes[MOST];
+    size_t length;
+};
+
+struct verdict {
+    unsigned number;
+    size_t place[2];
+};
+
+static _Noreturn void fail(const char *what, const char *which)
+{
+    fprintf(stderr, "harness: %s %s\n", what, which);
+    exit(1);
+}
+
+static check *find_checker(const char *name)
+{
+    for (size_t i = 0; i < sizeof checkers / sizeof *checkers; i++)
+        if (strcmp(checkers[i].name, name) == 0) return checkers[i].check;
+    fail("no checker is called", name);
+}
+
+/* One call of a checker; a function of its own, for the count of instructions begins and ends with it. */
+__attribute__((noinline))
+static struct verdict harness_call(check *by, const struct file *day, const struct file *clearing,
+                                   uint8_t *room, size_t length)
+{
+    struct verdict v;
+    v.number = by(day->bytes, day->length, clearing->bytes, clearing->length, room, length, v.place, 2);
+    return v;
+}
+
+/* -------------------------------------------------- verdicts */
+
+static unsigned at16(const uint8_t *p) { return p[0] | (unsigned)p[1] << 8; }
+
+static uint32_t at32(const uint8_t *p) { return at16(p) | (uint32_t)at16(p + 2) << 16; }
+
+static int64_t at64(const uint8_t *p) { return (int64_t)(at32(p) | (uint64_t)at32(p + 4) << 32); }
+
+static void take(uint8_t *to, size_t length)
+{
+    if (fread(to, 1, length, stdin) != length) fail("the pairs end early", "");
+}
+
+/* Prints an accepted day's statement and gives its length. */
+static size_t print_statement(const struct file *day, const uint8_t *room)
+{
+    static const char *const names[] = {"order value", "buyers", "sellers", "rent", "traded", "shortfall"};
+    size_t periods = at16(day->bytes), count = at16(room + HEAD - 2);
+    if (periods < 1 || periods > PERIODS || at16(room) != TOTALS || HEAD + 4 * count > ROOM)
+        fail("an accepted day", "has no statement");
+    for (size_t i = 0; i < TOTALS; i++) printf("%s %lld\n", names[i], (long long)at64(room + 2 + 8 * i));
+    const uint8_t *codes = day->bytes + 4 + 8 * periods, *nets = room + HEAD;
+    for (size_t i = 0; i < count; i++)
+        printf("net %u %zu %d\n", at16(codes + 2 * (i / periods)), i % periods, (int32_t)at32(nets + 4 * i));
+    return HEAD + 4 * count;
+}
+
+static int all_are(const uint8_t *bytes, size_t length, uint8_t value)
+{
+    for (size_t i = 0; i < length; i++)
+        if (bytes[i] != value) return 0;
+    return 1;
+}
+
+/* Other rooms for an accepted pair with this statement: one a byte too short is 18 and stays as it was, one
+   that just fits gets the statement and no more; and a place of one number is 255 and changes nothing. */
+static void try_rooms(check *by, const struct file *day, const struct file *clearing, const uint8_t *room,
+                      size_t length)
+{
+    uint8_t other[ROOM + BEHIND];
+    memset(other, 0x55, sizeof other);
+    struct verdict v = harness_call(by, day, clearing, other, length - 1);
+    if (v.number != 18 || v.place[0] || v.place[1] || !all_are(other, sizeof other, 0x55))
+        fail("a room one byte short", "is not 18, or changed");
+    v = harness_call(by, day, clearing, other, length);
+    if (v.number || memcmp(other, room, length) || !all_are(other + length, sizeof other - length, 0x55))
+        fail("a room that just fits", "is not the statement alone");
+    size_t place[2] = {7, 7};
+    if (by(day->bytes, day->length, clearing->bytes, clearing->length, other, length, place, 1) != 255
+        || place[0] != 7 || place[1] != 7)
+        fail("a place of one number", "is not 255, or changed");
+}
+
+static void verdicts(check *by)
+{
+    static struct file day, clearing;
+    uint8_t lengths[8], room[ROOM + BEHIND];
+    while (fread(lengths, 1, 1, stdin) == 1) {
+        take(lengths + 1, 7);
+        day.length = at32(lengths);
+        clearing.length = at32(lengths + 4);
+        if (day.length > MOST || clearing.length > MOST) fail("a file of a pair", "is too long");
+        take(day.bytes, day.length);
+        take(clearing.bytes, clearing.length);
+        memset(room, 0xaa, sizeof room);
+        struct verdict v = harness_call(by, &day, &clearing, room, ROOM);
+        printf("verdict %u %zu %zu\n", v.number, v.place[0], v.place[1]);
+        size_t length = v.number ? 0 : print_statement(&day, room);
+        if (!all_are(room + length, sizeof room - length, 0xaa))
+            fail("a room changed", v.number ? "by a refusal" : "behind the statement");
+        if (length) try_rooms(by, &day, &clearing, room, length);
+    }
+}
+
+/* -------------------------------------------------- calls and times of one pair */
+
+static void load(struct file *file, const char *name)
+{
+    FILE *from = fopen(name, "rb");
+    if (!from) fail("cannot open", name);
+    file->length = fread(file->bytes, 1, MOST, from);
+    fclose(from);
+}
+
+static void calls(check *by, const struct file *day, const struct file *clearing, long count)
+{
+    static uint8_t room[ROOM];
+    for (long i = 0; i < count; i++)
+        if (harness_call(by, day, clearing, room, ROOM).number) fail("the day", "was refused");
+}
+
+static double timed(check *by, const struct file *day, const struct file *clearing)
+{
+    struct timespec from, to;
+    clock_gettime(CLOCK_MONOTONIC, &from);
+    calls(by, day, clearing, 1);
+    clock_gettime(CLOCK_MONOTONIC, &to);
+    return 1e6 * (double)(to.tv_sec - from.tv_sec) + 1e-3 * (double)(to.tv_nsec - from.tv_nsec);
+}
+
+static int by_size(const void *a, const void *b)
+{
+    double x = *(const double *)a, y = *(const double *)b;
+    return (x > y) - (x < y);
+}
+
+/* The rounds go first, second, second, first, and so on, so that neither is always behind the other. */
+static void times(char **names, const struct file *day, const struct file *clearing, long count)
+{
+    check *by[2] = {find_checker(names[0]), find_checker(names[1])};
+    double *taken[2], median[2], least[2];
+    for (int i = 0; i < 2; i++) {
+        taken[i] = malloc((size_t)count * sizeof(double));
+        if (!taken[i]) fail("no memory", "for the times");
+        calls(by[i], day, clearing, count / 4 + 1);
+    }
+    for (long round = 0; round < count; round++)
+        for (int turn = 0; turn < 2; turn++) {
+            int i = (turn + (int)(round % 2)) % 2;
+            taken[i][round] = timed(by[i], day, clearing);
+        }
+    for (int i = 0; i < 2; i++) {
+        qsort(taken[i], (size_t)count, sizeof(double), by_size);
+        median[i] = taken[i][count / 2];
+        least[i] = taken[i][0];
+        printf("%-28s %9.2f median %9.2f lowest, in microseconds\n", names[i], median[i], least[i]);
+        free(taken[i]);
+    }
+    printf("%-28s %9.2f median %9.2f lowest\n", "ratio", median[0] / median[1], least[0] / least[1]);
+}
+
+int main(int argc, char **argv)
+{
+    static struct file day, clearing;
+    if (argc == 3 && strcmp(argv[1], "verdicts") == 0) {
+        verdicts(find_checker(argv[2]));
+    } else if (argc == 6 && strcmp(argv[1], "calls") == 0) {
+        load(&day, argv[3]);
+        load(&clearing, argv[4]);
+        calls(find_checker(argv[2]), &day, &clearing, atol(argv[5]));
+    } else if (argc == 7 && strcmp(argv[1], "times") == 0 && atol(argv[6]) > 0) {
+        load(&day, argv[4]);
+        load(&clearing, argv[5]);
+        times(argv + 2, &day, &clearing, atol(argv[6]));
+    } else {
+        fail("usage: verdicts NAME, calls NAME DAY CLEARING COUNT,", "times NAME NAME DAY CLEARING COUNT");
+    }
+    return 0;
+}
