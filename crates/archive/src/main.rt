@@ -89,7 +89,7 @@ fn judge_next() -> bool {
             return true;
         }
     }
-    report::say(b"cut short\n");
+    print::text(b"cut short\n");
     false
 }
 

@@ -16,11 +16,11 @@ fn main() {
     let mut day = io::large_buffer();
     let mut clearing = io::large_buffer();
     let Reading::Held(day_length) = read_named(b"day.bin", &mut day) else {
-        report::say(b"missing day\n");
+        print::text(b"missing day\n");
         return;
     };
     let Reading::Held(clearing_length) = read_named(b"clearing.bin", &mut clearing) else {
-        report::say(b"missing clearing\n");
+        print::text(b"missing clearing\n");
         return;
     };
     report::judged(

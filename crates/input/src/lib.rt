@@ -1,5 +1,6 @@
 // Files read to their end, or as far as a buffer goes.
-ghost use lib.ListN.{length};
+ghost use mathlib.Core.Path.{_≡_};
+ghost use lib.ListN.{length, take};
 ghost use Rattle.input.specs.Within.{Within};
 
 // How many bytes of a file stand at the front of a buffer; or a read failed.
@@ -38,10 +39,14 @@ pub fn read(file: i32, buf: &mut [u8]) -> Reading
 
 // ---- the front of a buffer: n bytes, or all where there are fewer
 
-pub fn front<'a>(buf: &'a [u8], n: usize) -> &'a [u8] {
-    if n < buf.len() { &buf[0..n] } else { buf }
+pub fn front<'a>(buf: &'a [u8], n: usize) -> &'a [u8]
+    ensures { λ r. ⌜ now r ≡ take n (now (buf .entry)) ⌝ }
+{
+    if n < buf.len() { &buf[..n] } else { buf }
 }
 
-pub fn front_mut<'a>(buf: &'a mut [u8], n: usize) -> &'a mut [u8] {
-    if n < buf.len() { &mut buf[0..n] } else { buf }
+pub fn front_mut<'a>(buf: &'a mut [u8], n: usize) -> &'a mut [u8]
+    ensures { λ r. ⌜ now r ≡ take n (now (buf .entry)) ⌝ }
+{
+    if n < buf.len() { &mut buf[..n] } else { buf }
 }

@@ -6,7 +6,7 @@ use mathlib.Core.List.{List}
 use lib.ListN.{length, length-drop}
 use Rattle.sections.specs.Section.{count, after}
 use Rattle.rows.specs.Rows.{rowSize}
-use Rattle.rows.specs.declared.Kind.the-variants.{Periods, Zones, Lines, Steps}
+use Rattle.rows.specs.declared.Kind.the-variants.{Zones, Lines, Steps}
 use Rattle.day.specs.Day.{periods, zonesPart, linesPart, stepsPart, blocksPart}
 use Rattle.day.specs.Good.{GoodDay}
 use Rattle.parts.specs.Of.{zonesAt, linesAt, stepsAt, blocksAt}

@@ -4,6 +4,14 @@ ghost use mathlib.Core.Path.{_≡_};
 ghost use lib.IntN.{natAbs};
 ghost use lib.ListN.{length};
 
+// Prints bytes as they are. Gives how many they are.
+pub fn text(s: &[u8]) -> usize
+    ensures { λ r. ⌜ r ≡ length (now (s .entry)) ⌝ }
+{
+    io::write_all(STDOUT_FILENO, s);
+    s.len()
+}
+
 // Prints a whole number in plain decimal, with a minus sign where it is below zero. Gives what it printed behind the sign.
 pub fn signed(v: i64) -> u64
     ensures { λ r. ⌜ r ≡ natAbs v ⌝ }

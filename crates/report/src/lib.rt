@@ -5,10 +5,8 @@ use stages::Place;
 use verdict::Outcome;
 ghost use mathlib.Core.Path.{_≡_};
 ghost use Prim.Native.Nat.{_<_};
-
-pub fn say(text: &[u8]) {
-    io::write_all(STDOUT_FILENO, text);
-}
+ghost use Rattle.verdict.specs.Verdict.{numberOf};
+ghost use Rattle.verdict.specs.Verdict as meaning;
 
 fn number(n: usize) {
     io::print_decimal(STDOUT_FILENO, n as u64);
@@ -17,19 +15,19 @@ fn number(n: usize) {
 // ---- the verdict and the totals
 
 fn verdict(kind: u8, place: Place) {
-    say(b"verdict ");
+    print::text(b"verdict ");
     number(kind as usize);
-    say(b" ");
+    print::text(b" ");
     number(place.first);
-    say(b" ");
+    print::text(b" ");
     number(place.second);
-    say(b"\n");
+    print::text(b"\n");
 }
 
 fn total(name: &[u8], v: i64) {
-    say(name);
+    print::text(name);
     print::signed(v);
-    say(b"\n");
+    print::text(b"\n");
 }
 
 fn totals(t: Totals) {
@@ -66,13 +64,13 @@ fn i32_or_zero(s: &[u8], at: usize) -> i64 {
 fn net(codes: &[u8], room: &[u8], periods: usize, k: usize)
     requires { ⌜ (0 < periods) × (k < 65536) ⌝ }
 {
-    say(b"net ");
+    print::text(b"net ");
     number(u16_or_zero(codes, 2 * (k / periods)));
-    say(b" ");
+    print::text(b" ");
     number(k % periods);
-    say(b" ");
+    print::text(b" ");
     print::signed(i32_or_zero(room, 52 + 4 * k));
-    say(b"\n");
+    print::text(b"\n");
 }
 
 fn nets(codes: &[u8], room: &[u8], periods: usize) {
@@ -85,9 +83,15 @@ fn nets(codes: &[u8], room: &[u8], periods: usize) {
 
 // ---- the outcome of a check of a day file, and the room that was lent to it
 
-pub fn outcome(outcome: Outcome, day: &[u8], room: &[u8]) {
+// Gives the number that it printed.
+pub fn outcome(outcome: Outcome, day: &[u8], room: &[u8]) -> u8
+    ensures { λ r. ⌜ r ≡ numberOf outcome ⌝ }
+{
     match outcome {
-        Outcome::Refused(kind, place) => verdict(kind, place),
+        Outcome::Refused(kind, place) => {
+            verdict(kind, place);
+            kind
+        }
         Outcome::Accepted(t) => {
             verdict(
                 0,
@@ -102,13 +106,16 @@ pub fn outcome(outcome: Outcome, day: &[u8], room: &[u8]) {
                 room,
                 lookup::look_up(day, 1).len() / 8,
             );
+            0
         }
     }
 }
 
-// Judges two files in a room that every statement fits.
-pub fn judged(day: &[u8], clearing: &[u8]) {
+// Judges two files in a room that every statement fits. Gives the number that it printed.
+pub fn judged(day: &[u8], clearing: &[u8]) -> u8
+    ensures { λ r. ⌜ r ≡ numberOf (meaning.verdict (now (day .entry)) (now (clearing .entry)) 852) ⌝ }
+{
     let mut room = [0u8; 852];
     let judged = verdict::check(day, clearing, &mut room);
-    outcome(judged, day, &room);
+    outcome(judged, day, &room)
 }

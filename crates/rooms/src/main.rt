@@ -18,9 +18,9 @@ fn filled() -> [u8; 65536]
 }
 
 fn say_room(room: &[u8]) {
-    report::say(b"room ");
+    print::text(b"room ");
     print::bytes(room);
-    report::say(b"\n");
+    print::text(b"\n");
 }
 
 fn judge(day: &[u8], clearing: &[u8], room: &mut [u8]) {
@@ -69,7 +69,7 @@ fn judge_all(file: i32) {
 fn main() {
     let file = os::open_read(b"pairs");
     if file < 0 {
-        report::say(b"no pairs\n");
+        print::text(b"no pairs\n");
         return;
     }
     judge_all(file);

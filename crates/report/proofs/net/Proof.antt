@@ -5,11 +5,11 @@ use borrow.Author.Needs.{needs}
 use Rattle.report.proofs.net.Statement.{statement}
 use Rattle.report.proofs.net.Tie as tie
 
-slice-aggregate-say : tie.Need-slice-aggregate-say
-slice-aggregate-say c = search needs
+slice-aggregate-text : tie.Need-slice-aggregate-text
+slice-aggregate-text c = search needs
 
-say-requires : tie.Need-say-requires
-say-requires c κs = search needs
+text-requires : tie.Need-text-requires
+text-requires c κs = search needs
 
 div-u16-or-zero : tie.Need-div-u16-or-zero
 div-u16-or-zero c = search needs
@@ -23,11 +23,11 @@ u16-or-zero-requires c κs = search needs
 number-requires : tie.Need-number-requires
 number-requires c κs = search needs
 
-slice-aggregate-say-2 : tie.Need-slice-aggregate-say-2
-slice-aggregate-say-2 c = search needs
+slice-aggregate-text-2 : tie.Need-slice-aggregate-text-2
+slice-aggregate-text-2 c = search needs
 
-say-requires-2 : tie.Need-say-requires-2
-say-requires-2 c κs = search needs
+text-requires-2 : tie.Need-text-requires-2
+text-requires-2 c κs = search needs
 
 rem-number : tie.Need-rem-number
 rem-number c = search needs
@@ -35,11 +35,11 @@ rem-number c = search needs
 number-requires-2 : tie.Need-number-requires-2
 number-requires-2 c κs = search needs
 
-slice-aggregate-say-3 : tie.Need-slice-aggregate-say-3
-slice-aggregate-say-3 c = search needs
+slice-aggregate-text-3 : tie.Need-slice-aggregate-text-3
+slice-aggregate-text-3 c = search needs
 
-say-requires-3 : tie.Need-say-requires-3
-say-requires-3 c κs = search needs
+text-requires-3 : tie.Need-text-requires-3
+text-requires-3 c κs = search needs
 
 mul-i32-or-zero : tie.Need-mul-i32-or-zero
 mul-i32-or-zero c = search needs
@@ -53,11 +53,11 @@ i32-or-zero-requires c κs = search needs
 signed-requires : tie.Need-signed-requires
 signed-requires c κs = search needs
 
-slice-aggregate-say-4 : tie.Need-slice-aggregate-say-4
-slice-aggregate-say-4 c = search needs
+slice-aggregate-text-4 : tie.Need-slice-aggregate-text-4
+slice-aggregate-text-4 c = search needs
 
-say-requires-4 : tie.Need-say-requires-4
-say-requires-4 c κs = search needs
+text-requires-4 : tie.Need-text-requires-4
+text-requires-4 c κs = search needs
 
 returns : tie.Need-returns
 returns c = search needs
@@ -66,22 +66,22 @@ pub net-spec : {M : Type 1} → statement M
 net-spec =
     tie.close
     (tie.spec
-    slice-aggregate-say
-    say-requires
+    slice-aggregate-text
+    text-requires
     div-u16-or-zero
     mul-u16-or-zero
     u16-or-zero-requires
     number-requires
-    slice-aggregate-say-2
-    say-requires-2
+    slice-aggregate-text-2
+    text-requires-2
     rem-number
     number-requires-2
-    slice-aggregate-say-3
-    say-requires-3
+    slice-aggregate-text-3
+    text-requires-3
     mul-i32-or-zero
     add-i32-or-zero
     i32-or-zero-requires
     signed-requires
-    slice-aggregate-say-4
-    say-requires-4
+    slice-aggregate-text-4
+    text-requires-4
     returns)
