@@ -4,9 +4,6 @@
 #include <stdint.h>
 #include <string.h>
 
-uint8_t floor_check(const uint8_t *day, size_t day_length, const uint8_t *clearing, size_t clearing_length,
-                    uint8_t *room, size_t room_length, size_t *place, size_t places);
-
 /* A file as 64-bit words, and its last few bytes. */
 static uint64_t sum(const uint8_t *file, size_t length)
 {

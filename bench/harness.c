@@ -1,26 +1,26 @@
 /* Runs a checker for bench/measure:
      harness verdicts NAME <PAIRS                judges framed pairs, prints as the program does, tries rooms
      harness calls NAME DAY CLEARING COUNT       judges one pair COUNT times, for counting instructions
-     harness times NAME NAME DAY CLEARING COUNT  times both on one pair, COUNT rounds in turn */
-#include <stddef.h>
-#include <stdint.h>
+     harness times SECONDS DAY CLEARING NAME...  times the named on one pair, in turn */
 #include <stdio.h>
 #include <stdlib.h>
 #include <string.h>
 #include <time.h>
 
-#include "rival.h"
+#include "../include/ayinzhad.h"
 
 typedef uint8_t check(const uint8_t *, size_t, const uint8_t *, size_t, uint8_t *, size_t, size_t *, size_t);
-check ayinzhad_check, floor_check;
+check rival_check, tuned_check, floor_check;
 
 static const struct checker {
     const char *name;
     check *check;
-} checkers[] = {{"ayinzhad", ayinzhad_check}, {"rival", rival_check}, {"floor", floor_check}};
+} checkers[] = {{"ayinzhad", ayinzhad_check}, {"rival", rival_check}, {"tuned", tuned_check},
+                {"floor", floor_check}};
 
-/* A file is cut at MOST bytes, longer than any that reads without fault; no statement is longer than ROOM. */
-enum { MOST = 65536, PERIODS = 25, TOTALS = 6, HEAD = 4 + 8 * TOTALS, ROOM = 852, BEHIND = 16 };
+/* A file is cut at MOST bytes, longer than any that reads without fault. A room has some bytes BEHIND the
+   longest statement. */
+enum { MOST = 65536, PERIODS = 25, HEAD = 4 + 8 * AYINZHAD_TOTALS, ROOM = AYINZHAD_LONGEST, BEHIND = 16 };
 
 struct file {
     uint8_t bytes[MOST];
@@ -51,7 +51,8 @@ static struct verdict harness_call(check *by, const struct file *day, const stru
                                    uint8_t *room, size_t length)
 {
     struct verdict v;
-    v.number = by(day->bytes, day->length, clearing->bytes, clearing->length, room, length, v.place, 2);
+    v.number = by(day->bytes, day->length, clearing->bytes, clearing->length, room, length, v.place,
+                  AYINZHAD_PLACE);
     return v;
 }
 
@@ -68,14 +69,24 @@ static void take(uint8_t *to, size_t length)
     if (fread(to, 1, length, stdin) != length) fail("the pairs end early", "");
 }
 
+/* Takes a file of so many bytes: the first MOST of them, and passes over the rest. */
+static void take_file(struct file *file, size_t length)
+{
+    file->length = length < MOST ? length : MOST;
+    take(file->bytes, file->length);
+    for (length -= file->length; length; length--)
+        if (getchar() == EOF) fail("the pairs end early", "");
+}
+
 /* Prints an accepted day's statement and gives its length. */
 static size_t print_statement(const struct file *day, const uint8_t *room)
 {
     static const char *const names[] = {"order value", "buyers", "sellers", "rent", "traded", "shortfall"};
     size_t periods = at16(day->bytes), count = at16(room + HEAD - 2);
-    if (periods < 1 || periods > PERIODS || at16(room) != TOTALS || HEAD + 4 * count > ROOM)
+    if (periods < 1 || periods > PERIODS || at16(room) != AYINZHAD_TOTALS || HEAD + 4 * count > ROOM)
         fail("an accepted day", "has no statement");
-    for (size_t i = 0; i < TOTALS; i++) printf("%s %lld\n", names[i], (long long)at64(room + 2 + 8 * i));
+    for (size_t i = 0; i < AYINZHAD_TOTALS; i++)
+        printf("%s %lld\n", names[i], (long long)at64(room + 2 + 8 * i));
     const uint8_t *codes = day->bytes + 4 + 8 * periods, *nets = room + HEAD;
     for (size_t i = 0; i < count; i++)
         printf("net %u %zu %d\n", at16(codes + 2 * (i / periods)), i % periods, (int32_t)at32(nets + 4 * i));
@@ -103,7 +114,8 @@ static void try_rooms(check *by, const struct file *day, const struct file *clea
     if (v.number || memcmp(other, room, length) || !all_are(other + length, sizeof other - length, 0x55))
         fail("a room that just fits", "is not the statement alone");
     size_t place[2] = {7, 7};
-    if (by(day->bytes, day->length, clearing->bytes, clearing->length, other, length, place, 1) != 255
+    if (by(day->bytes, day->length, clearing->bytes, clearing->length, other, length, place, 1)
+            != AYINZHAD_WRONG_LENGTH
         || place[0] != 7 || place[1] != 7)
         fail("a place of one number", "is not 255, or changed");
 }
@@ -114,11 +126,8 @@ static void verdicts(check *by)
     uint8_t lengths[8], room[ROOM + BEHIND];
     while (fread(lengths, 1, 1, stdin) == 1) {
         take(lengths + 1, 7);
-        day.length = at32(lengths);
-        clearing.length = at32(lengths + 4);
-        if (day.length > MOST || clearing.length > MOST) fail("a file of a pair", "is too long");
-        take(day.bytes, day.length);
-        take(clearing.bytes, clearing.length);
+        take_file(&day, at32(lengths));
+        take_file(&clearing, at32(lengths + 4));
         memset(room, 0xaa, sizeof room);
         struct verdict v = harness_call(by, &day, &clearing, room, ROOM);
         printf("verdict %u %zu %zu\n", v.number, v.place[0], v.place[1]);
@@ -146,13 +155,12 @@ static void calls(check *by, const struct file *day, const struct file *clearing
         if (harness_call(by, day, clearing, room, ROOM).number) fail("the day", "was refused");
 }
 
-static double timed(check *by, const struct file *day, const struct file *clearing)
+/* The seconds on a clock that never goes back. */
+static double now(void)
 {
-    struct timespec from, to;
-    clock_gettime(CLOCK_MONOTONIC, &from);
-    calls(by, day, clearing, 1);
-    clock_gettime(CLOCK_MONOTONIC, &to);
-    return 1e6 * (double)(to.tv_sec - from.tv_sec) + 1e-3 * (double)(to.tv_nsec - from.tv_nsec);
+    struct timespec at;
+    clock_gettime(CLOCK_MONOTONIC, &at);
+    return (double)at.tv_sec + 1e-9 * (double)at.tv_nsec;
 }
 
 static int by_size(const void *a, const void *b)
@@ -161,29 +169,36 @@ static int by_size(const void *a, const void *b)
     return (x > y) - (x < y);
 }
 
-/* The rounds go first, second, second, first, and so on, so that neither is always behind the other. */
-static void times(char **names, const struct file *day, const struct file *clearing, long count)
+/* Rounds until the seconds are over, in each of which every checker is timed once; each round begins with
+   the next of them, so that none is always behind the same. The first rounds only warm up. */
+enum { WARM = 10, FEWEST = 50, ROUNDS = 5000, CHECKERS = sizeof checkers / sizeof *checkers };
+
+static void times(double seconds, const struct file *day, const struct file *clearing, char **names, int n)
 {
-    check *by[2] = {find_checker(names[0]), find_checker(names[1])};
-    double *taken[2], median[2], least[2];
-    for (int i = 0; i < 2; i++) {
-        taken[i] = malloc((size_t)count * sizeof(double));
-        if (!taken[i]) fail("no memory", "for the times");
-        calls(by[i], day, clearing, count / 4 + 1);
-    }
-    for (long round = 0; round < count; round++)
-        for (int turn = 0; turn < 2; turn++) {
-            int i = (turn + (int)(round % 2)) % 2;
-            taken[i][round] = timed(by[i], day, clearing);
+    static double taken[CHECKERS][ROUNDS];
+    check *by[CHECKERS];
+    if (n > CHECKERS) fail("too many", "checkers");
+    for (int i = 0; i < n; i++) by[i] = find_checker(names[i]);
+
+    const double end = now() + seconds;
+    long rounds = -WARM;
+    for (; rounds < FEWEST || (rounds < ROUNDS && now() < end); rounds++)
+        for (int turn = 0; turn < n; turn++) {
+            int i = (int)((turn + rounds + WARM) % n);
+            double from = now();
+            calls(by[i], day, clearing, 1);
+            if (rounds >= 0) taken[i][rounds] = 1e6 * (now() - from);
         }
-    for (int i = 0; i < 2; i++) {
-        qsort(taken[i], (size_t)count, sizeof(double), by_size);
-        median[i] = taken[i][count / 2];
-        least[i] = taken[i][0];
-        printf("%-28s %9.2f median %9.2f lowest, in microseconds\n", names[i], median[i], least[i]);
-        free(taken[i]);
+
+    printf("%ld rounds\n", rounds);
+    for (int i = 0; i < n; i++) {
+        qsort(taken[i], (size_t)rounds, sizeof(double), by_size);
+        printf("%-28s %9.2f median %9.2f lowest, in microseconds\n", names[i], taken[i][rounds / 2],
+               taken[i][0]);
     }
-    printf("%-28s %9.2f median %9.2f lowest\n", "ratio", median[0] / median[1], least[0] / least[1]);
+    for (int i = 1; i < n; i++)
+        printf("%s / %-*s %9.2f median %9.2f lowest\n", names[0], 25 - (int)strlen(names[0]), names[i],
+               taken[0][rounds / 2] / taken[i][rounds / 2], taken[0][0] / taken[i][0]);
 }
 
 int main(int argc, char **argv)
@@ -191,16 +206,14 @@ int main(int argc, char **argv)
     static struct file day, clearing;
     if (argc == 3 && strcmp(argv[1], "verdicts") == 0) {
         verdicts(find_checker(argv[2]));
-    } else if (argc == 6 && strcmp(argv[1], "calls") == 0) {
-        load(&day, argv[3]);
-        load(&clearing, argv[4]);
-        calls(find_checker(argv[2]), &day, &clearing, atol(argv[5]));
-    } else if (argc == 7 && strcmp(argv[1], "times") == 0 && atol(argv[6]) > 0) {
-        load(&day, argv[4]);
-        load(&clearing, argv[5]);
-        times(argv + 2, &day, &clearing, atol(argv[6]));
-    } else {
-        fail("usage: verdicts NAME, calls NAME DAY CLEARING COUNT,", "times NAME NAME DAY CLEARING COUNT");
+        return 0;
     }
+    if (argc < 6)
+        fail("usage: verdicts NAME, calls NAME DAY CLEARING COUNT,", "times SECONDS DAY CLEARING NAME...");
+    load(&day, argv[3]);
+    load(&clearing, argv[4]);
+    if (strcmp(argv[1], "calls") == 0) calls(find_checker(argv[2]), &day, &clearing, atol(argv[5]));
+    else if (strcmp(argv[1], "times") == 0) times(atof(argv[2]), &day, &clearing, argv + 5, argc - 5);
+    else fail("no such word:", argv[1]);
     return 0;
 }

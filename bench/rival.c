@@ -1,520 +1,251 @@
-/* The rival: what the checker is measured against. One quick pass reads every row once and joins all tests
-   without a branch; at the first doubt a plain judge goes through the rules in order and names the fault.
+/* The rival: a checker in portable C, written for speed and to be kept. Its quick pass walks the rows once,
+   joins all tests without a branch and gathers sums and nets on the way. Rows with a number for each period
+   are copied into rows of WIDTH numbers with zeros behind, so that loops over periods run in whole steps of
+   four and the compiler can take several periods at once. */
+#include "judge.h"
 
-   The quick pass leans on facts that hold for every accepted clearing:
-   - a price between floor and ceiling, a flow within its capacities and a volume within its quantity are in
-     range when those bounds are, so they need no range test of their own;
-   - an accepted step gains at least nothing, so its surplus is a product of unsigned numbers;
-   - in balance the nets are the flows leaving less those entering and sum to 0, so the rent is minus the
-     sum of price times net, and the order value is both surpluses and the rent. */
-#include "rival.h"
-
-#include <string.h>
-
-enum { MOST = 1000000, PERIODS = 25, ZONES = 8, LINES = 16, STEPS = 2000, BLOCKS = 100 };
-enum { STEP = 12, TOTALS = 6, HEAD = 2 + 8 * TOTALS + 2 };
-
-#define INLINE static inline __attribute__((always_inline))
-
-INLINE uint32_t load16(const uint8_t *p) { uint16_t v; memcpy(&v, p, 2); return v; }
-INLINE uint32_t load32(const uint8_t *p) { uint32_t v; memcpy(&v, p, 4); return v; }
-INLINE int64_t signed32(const uint8_t *p) { int32_t v; memcpy(&v, p, 4); return v; }
-
-/* -------------------------------------------------- the files and their sections */
-
-enum { PERIOD_ROWS, ZONE_ROWS, LINE_ROWS, STEP_ROWS, BLOCK_ROWS, PRICES, FLOWS, VOLUMES, TAKEN, SECTIONS };
-
-struct files {
-    size_t count[SECTIONS], size[SECTIONS]; /* how many rows, how long each */
-    const uint8_t *rows[SECTIONS];
-};
-
-struct rest {
-    const uint8_t *at;
-    size_t length;
-};
-
-/* Opens a section: its count, the count's limits, room for all rows. `cut` is 1 in the day file and 5 in the
-   clearing file; the other refusals of a file follow it. Gives 0 or the refusal. */
-INLINE int open_section(struct files *f, int s, struct rest *rest, size_t least, size_t most, size_t size,
-                        int cut)
-{
-    if (rest->length < 2) return cut;
-    size_t count = load16(rest->at);
-    if (count < least || count > most) return cut + 1;
-    if (rest->length - 2 < count * size) return cut;
-    f->count[s] = count;
-    f->size[s] = size;
-    f->rows[s] = rest->at + 2;
-    rest->at += 2 + count * size;
-    rest->length -= 2 + count * size;
-    return 0;
-}
-
-/* Opens section s of the nine, all before it being open. */
-INLINE int open_next(struct files *f, int s, struct rest *day, struct rest *clearing)
-{
-    const size_t *n = f->count, h = s > PERIOD_ROWS ? n[PERIOD_ROWS] : 0;
-    switch (s) {
-    case PERIOD_ROWS: return open_section(f, s, day, 1, PERIODS, 8, 1);
-    case ZONE_ROWS: return open_section(f, s, day, 1, ZONES, 2, 1);
-    case LINE_ROWS: return open_section(f, s, day, 0, LINES, 2 + 8 * h, 1);
-    case STEP_ROWS: return open_section(f, s, day, 0, STEPS, STEP, 1);
-    case BLOCK_ROWS: return open_section(f, s, day, 0, BLOCKS, 8 + 4 * h, 1);
-    case PRICES: return open_section(f, s, clearing, n[ZONE_ROWS] * h, n[ZONE_ROWS] * h, 4, 5);
-    case FLOWS: return open_section(f, s, clearing, n[LINE_ROWS] * h, n[LINE_ROWS] * h, 4, 5);
-    case VOLUMES: return open_section(f, s, clearing, n[STEP_ROWS], n[STEP_ROWS], 4, 5);
-    default: return open_section(f, s, clearing, n[BLOCK_ROWS], n[BLOCK_ROWS], 1, 5);
-    }
-}
-
-/* -------------------------------------------------- the quick pass, four numbers at a time */
-
-typedef uint8_t bytes __attribute__((vector_size(16)));
-typedef uint16_t words __attribute__((vector_size(16)));
-typedef uint32_t four __attribute__((vector_size(16)));
-typedef int32_t signed_four __attribute__((vector_size(16)));
-typedef uint64_t two __attribute__((vector_size(16)));
-
-#ifdef __clang__
-#define EVEN_PRODUCTS(a, b) (((two)(a) & 0xffffffff) * ((two)(b) & 0xffffffff))
-#define GREATER_BYTES(a, b) ((four)__builtin_elementwise_max((bytes)(a), (bytes)(b)))
-#else
-#define EVEN_PRODUCTS(a, b) ((two)__builtin_ia32_pmuludq128((signed_four)(a), (signed_four)(b)))
-typedef char chars __attribute__((vector_size(16)));
-#define GREATER_BYTES(a, b) ((four)__builtin_ia32_pmaxub128((chars)(a), (chars)(b)))
-#endif
-
-INLINE four load4(const uint8_t *p) { four v; memcpy(&v, p, 16); return v; }
-INLINE four above(four a, four b) { return (four)((signed_four)a > (signed_four)b); }
-INLINE four odd(four v) { return __builtin_shufflevector(v, v, 1, 1, 3, 3); }
-INLINE uint64_t sum2(two v) { return v[0] + v[1]; }
-INLINE uint64_t sum4(four v) { return (uint64_t)v[0] + v[1] + v[2] + v[3]; }
-
-/* The first n of four numbers, or all, and zeros behind them. */
-INLINE four load_up_to_4(const uint8_t *p, size_t n)
-{
-    four v = {0};
-    if (n >= 4) return load4(p);
-    if (n == 1) memcpy(&v, p, 4);
-    if (n == 2) memcpy(&v, p, 8);
-    if (n == 3) memcpy(&v, p, 12);
-    return v;
-}
-
-/* All ones where a number is not from least to most: one signed comparison after a shift of the range. */
-INLINE four outside(four v, uint32_t least, uint32_t most)
-{
-    return above(v + (0x80000000 - least), (four){0} + (0x80000000 + (most - least)));
-}
-
-/* The first n of four pairs of numbers, or all, apart; gives all ones where one is outside. */
-INLINE four load_pairs(const uint8_t *p, size_t n, uint32_t least, uint32_t most, four *first, four *second)
-{
-    four a = load_up_to_4(p, 2 * n), b = {0};
-    if (n > 2) b = load_up_to_4(p + 16, 2 * n - 4);
-    *first = __builtin_shufflevector(a, b, 0, 2, 4, 6);
-    *second = __builtin_shufflevector(a, b, 1, 3, 5, 7);
-    return outside(a, least, most) | outside(b, least, most);
-}
-
-/* A cell is zone times 32 plus period. The tables of both sides have the sells' half, then the buys'. */
-enum { WIDTH = 32, CELLS = ZONES * WIDTH };
-
+/* The tables of both sides have the sells' half, then the buys'. A step gains (limit ^ flip) + shift: that is
+   price - limit for a sell, limit - price for a buy. Prices raised by MOST are unsigned. */
 struct tables {
-    union { uint32_t cell[2 * CELLS]; four at[2 * CELLS / 4]; } price; /* the buys' half is inverted */
-    union { uint32_t cell[2 * CELLS]; four at[2 * CELLS / 4]; } volume;
-    four raised[CELLS / 4], raised_odd[CELLS / 4];                     /* price + MOST, its odd numbers */
-    four leaving[CELLS / 4];                                           /* flows leaving less entering */
+    uint32_t price[CELLS];
+    uint64_t even[CELLS / 2], odd[CELLS / 2]; /* the raised prices of even and of odd periods */
+    uint32_t flip[2 * CELLS], shift[2 * CELLS], volume[2 * CELLS];
+    uint64_t surplus[2 * CELLS];
 };
 
-/* What the walk gathers. A clearing is in doubt at any bit in `some` or `some_word`, any sign in `sign` or
-   `sign_word`, any byte of a head beyond its limit. */
+/* What the walk gathers. A clearing is in doubt at any bit in `some`, any sign in `sign` or `sign_word`, any
+   upper bit of a byte of a head or of a limit in `upper`. */
 struct walk {
-    four some, sign, heads;          /* the heads of blocks */
-    uint64_t some_word, sign_word;
-    uint64_t surplus[2], shortfall;  /* of accepted blocks that sell and that buy; of the rejected */
+    uint64_t some, sign_word, upper;
+    uint32_t sign;
+    uint64_t surplus[2], shortfall; /* of accepted blocks that sell and that buy; of the rejected */
 };
 
-struct step_walk {
-    four sign, heads;
-    two surplus, buys;               /* the surplus of all steps, of the buys among them */
+static inline uint64_t load64(const uint8_t *p) { uint64_t v; memcpy(&v, p, 8); return v; }
+
+/* All ones if a is above b, as signed numbers, else 0. */
+static inline uint32_t above(uint32_t a, uint32_t b) { return (int32_t)a > (int32_t)b ? 0xffffffff : 0; }
+
+/* A row of numbers, two of them at a time as the halves of a word. */
+struct row {
+    uint64_t upper, sum, worth; /* upper bits if one is beyond MOST; both halves' sums; times raised prices */
 };
 
-INLINE void start_cells(struct tables *t, size_t at, four price)
+static inline struct row walk_row(const uint32_t *numbers, size_t fours, const uint64_t *even,
+                                  const uint64_t *odd)
 {
-    t->price.at[at] = price;
-    t->price.at[at + CELLS / 4] = ~price;
-    t->volume.at[at] = t->volume.at[at + CELLS / 4] = t->leaving[at] = (four){0};
-    t->raised[at] = price + MOST;
-    t->raised_odd[at] = odd(price + MOST);
+    const uint64_t beyond = 0x7fffffff - MOST;
+    struct row row = {0, 0, 0};
+    for (size_t i = 0; i < 2 * fours; i++) {
+        uint64_t pair = load64((const uint8_t *)(numbers + 2 * i));
+        row.upper |= pair | (pair + (beyond << 32 | beyond));
+        row.sum += pair;
+        row.worth += (uint64_t)(uint32_t)pair * (uint32_t)even[i] + (pair >> 32) * (uint32_t)odd[i];
+    }
+    return row;
+}
+
+/* The start of the tables for one zone. */
+static inline void start_cells(struct tables *t, size_t cells, const uint32_t *price)
+{
+    for (size_t i = 0; i < WIDTH; i++) {
+        size_t sell = cells + i, buy = CELLS + sell;
+        t->price[sell] = price[i];
+        t->shift[sell] = price[i] + 1;
+        t->shift[buy] = -price[i];
+        t->flip[sell] = 0xffffffff;
+        t->flip[buy] = 0;
+        t->volume[sell] = t->volume[buy] = 0;
+        t->surplus[sell] = t->surplus[buy] = 0;
+    }
+    for (size_t i = 0; i < WIDTH / 2; i++) {
+        t->even[cells / 2 + i] = price[2 * i] + MOST;
+        t->odd[cells / 2 + i] = price[2 * i + 1] + MOST;
+    }
 }
 
 /* Periods, zone codes and prices; every cell of the tables gets its start, those of no zone or period too. */
-INLINE void walk_prices(const struct files *f, size_t h, struct tables *t, struct walk *w)
+static inline void walk_prices(const struct files *f, struct tables *t, struct walk *w)
 {
-    four least[WIDTH / 4], most[WIDTH / 4];
-    for (size_t i = 0; i < h; i += 4) {
-        const uint8_t *row = f->rows[PERIOD_ROWS] + 8 * i;
-        w->some |= load_pairs(row, h - i, -MOST, MOST, &least[i / 4], &most[i / 4]);
-        w->some |= above(least[i / 4], most[i / 4]);
+    size_t h = f->count[PERIOD_ROWS];
+    uint32_t bounds[2 * WIDTH] = {0}, least[WIDTH], most[WIDTH], some = 0, before = 0;
+    memcpy(bounds, f->rows[PERIOD_ROWS], 8 * h);
+    for (size_t i = 0; i < WIDTH; i++) {
+        least[i] = bounds[2 * i];
+        most[i] = bounds[2 * i + 1];
+        some |= above(least[i], most[i]) | above((uint32_t)-MOST, least[i]) | above(most[i], MOST);
     }
-    uint32_t before = 0;
     for (size_t z = 0; z < ZONES; z++) {
-        size_t i = 0;
+        uint32_t price[WIDTH] = {0};
         if (z < f->count[ZONE_ROWS]) {
             uint32_t code = load16(f->rows[ZONE_ROWS] + 2 * z);
-            w->some_word |= code <= before;
+            some |= code <= before;
             before = code;
-            for (; i < h; i += 4) {
-                four price = load_up_to_4(f->rows[PRICES] + 4 * (z * h + i), h - i);
-                w->some |= above(least[i / 4], price) | above(price, most[i / 4]);
-                start_cells(t, (z * WIDTH + i) / 4, price);
-            }
+            memcpy(price, f->rows[PRICES] + 4 * z * h, 4 * h);
+            for (size_t i = 0; i < WIDTH; i++) some |= above(least[i], price[i]) | above(price[i], most[i]);
         }
-        for (; i < WIDTH; i += 4) start_cells(t, (z * WIDTH + i) / 4, (four){0});
+        start_cells(t, z * WIDTH, price);
     }
+    w->some |= some;
 }
 
 /* Lines and flows: what a flow leaves free each way is never below 0, and is 0 towards the dearer end. */
-INLINE void walk_lines(const struct files *f, size_t h, struct tables *t, struct walk *w)
+static inline void walk_lines(const struct files *f, const struct tables *t, uint32_t *leaving,
+                              struct walk *w)
 {
-    size_t zones = f->count[ZONE_ROWS];
+    size_t h = f->count[PERIOD_ROWS], zones = f->count[ZONE_ROWS];
+    uint32_t capacity[2 * WIDTH] = {0}, flow[WIDTH] = {0}, some = 0, sign = 0;
     for (size_t l = 0; l < f->count[LINE_ROWS]; l++) {
-        const uint8_t *row = f->rows[LINE_ROWS] + l * (2 + 8 * h), *flows = f->rows[FLOWS] + 4 * l * h;
-        size_t from = row[0] % ZONES * (WIDTH / 4), to = row[1] % ZONES * (WIDTH / 4);
-        w->some_word |= (row[0] >= zones) | (row[1] >= zones) | (row[0] == row[1]);
-        for (size_t i = 0; i < h; i += 4) {
-            four ahead, behind, flow = load_up_to_4(flows + 4 * i, h - i);
-            four here = t->price.at[from + i / 4], there = t->price.at[to + i / 4];
-            w->some |= load_pairs(row + 2 + 8 * i, h - i, 0, MOST, &ahead, &behind);
-            ahead -= flow;
-            behind += flow;
-            w->some |= (above(there, here) & ahead) | (above(here, there) & behind);
-            w->sign |= ahead | behind;
-            t->leaving[from + i / 4] += flow;
-            t->leaving[to + i / 4] -= flow;
+        const uint8_t *row = f->rows[LINE_ROWS] + l * (2 + 8 * h);
+        size_t from = row[0] % ZONES * WIDTH, to = row[1] % ZONES * WIDTH;
+        some |= (row[0] >= zones) | (row[1] >= zones) | (row[0] == row[1]);
+        memcpy(capacity, row + 2, 8 * h);
+        memcpy(flow, f->rows[FLOWS] + 4 * l * h, 4 * h);
+        for (size_t i = 0; i < WIDTH; i++) {
+            uint32_t ahead = capacity[2 * i], behind = capacity[2 * i + 1];
+            uint32_t here = t->price[from + i], there = t->price[to + i];
+            sign |= ahead | behind | (MOST - ahead) | (MOST - behind);
+            ahead -= flow[i];
+            behind += flow[i];
+            sign |= ahead | behind;
+            some |= (above(there, here) & ahead) | (above(here, there) & behind);
         }
+        for (size_t i = 0; i < WIDTH; i++) leaving[from + i] += flow[i];
+        for (size_t i = 0; i < WIDTH; i++) leaving[to + i] -= flow[i];
     }
+    w->some |= some;
+    w->sign |= sign;
 }
 
-/* Four steps: three vectors of rows, one of accepted volumes. */
-INLINE void walk_4_steps(const uint8_t *rows, const uint8_t *volumes, struct tables *t, struct step_walk *w)
+/* A head, which is the four bytes before a limit, and the limit are tested as one word: RAISE is added to it
+   and then what this gives. All is in range if neither sum has an upper bit, of a byte or of the limit. */
+#define RAISE ((uint64_t)MOST << 32)
+#define UPPER 0x8000000080808080
+
+static inline uint64_t beyond_heads(size_t zones, size_t second, size_t third)
 {
-    four a = load4(rows), b = load4(rows + 16), c = load4(rows + 32), volume = load4(volumes);
-    four low = __builtin_shufflevector(a, b, 1, 2, 4, 5), high = __builtin_shufflevector(b, c, 2, 3, 5, 6);
-    four head = __builtin_shufflevector(a, high, 0, 3, 4, 6);
-    four limit = __builtin_shufflevector(low, high, 0, 2, 5, 7);
-    four quantity = __builtin_shufflevector(low, c, 1, 3, 4, 7);
-    w->heads = GREATER_BYTES(w->heads, head);
-    w->sign |= outside(limit, -MOST, MOST) | outside(quantity, 1, MOST);
-
-    /* zone + 256 * period, times 2^13 + 1, has the cell in its upper byte; the side follows it */
-    words cell = (words)(((four)((words)head * (words){0x2001, 1, 0x2001, 1, 0x2001, 1, 0x2001, 1}) >> 8)
-                         & (2 * CELLS - 1));
-    const uint32_t *prices = t->price.cell;
-    four price = {prices[cell[0]], prices[cell[2]], prices[cell[4]], prices[cell[6]]};
-    t->volume.cell[cell[0]] += load32(volumes);
-    t->volume.cell[cell[2]] += load32(volumes + 4);
-    t->volume.cell[cell[4]] += load32(volumes + 8);
-    t->volume.cell[cell[6]] += load32(volumes + 12);
-
-    /* a sell gains price - limit, a buy limit - price: ~price - ~limit */
-    four buy = above(head, (four){0} + 0xffff);
-    four gain = price - (limit ^ buy);
-    four least = quantity & above(gain, (four){0}), most = quantity & ~above((four){0}, gain);
-    w->sign |= above(least, volume) | (most - volume);
-
-    four bought = volume & buy;
-    w->surplus += EVEN_PRODUCTS(gain, volume) + EVEN_PRODUCTS(odd(gain), odd(volume));
-    w->buys += EVEN_PRODUCTS(gain, bought) + EVEN_PRODUCTS(odd(gain), odd(bought));
+    uint64_t most = (zones - 1) | (second - 1) << 8 | (third - 1) << 16;
+    return ((uint64_t)(0x7fffffff - 2 * MOST) << 32) | (0x7f7f7f7f - most);
 }
 
-/* All steps. The last few are filled up with sells at the price that take nothing. */
-static __attribute__((noinline)) struct step_walk walk_steps(const struct files *f, struct tables *t)
+/* What the walk over the steps gathers beside the tables. */
+struct step_walk {
+    uint64_t upper, sign, some;
+    uint32_t most; /* the greatest quantity less 1 */
+};
+
+/* One step. Its volume has to be 0 where it gains less than nothing, and to leave no rest where it gains. */
+static inline void walk_step(const uint8_t *row, const uint8_t *volume_row, uint64_t beyond, struct tables *t,
+                             struct step_walk *w)
 {
-    struct step_walk w = {0};
-    const uint8_t *rows = f->rows[STEP_ROWS], *volumes = f->rows[VOLUMES];
-    size_t count = f->count[STEP_ROWS], left = count % 8;
-    for (const uint8_t *end = volumes + 4 * (count - left); volumes != end; rows += 8 * STEP, volumes += 32) {
-        walk_4_steps(rows, volumes, t, &w);
-        walk_4_steps(rows + 4 * STEP, volumes + 16, t, &w);
+    uint64_t word = load64(row), raised = word + RAISE;
+    uint64_t quantity = load32(row + 8), volume = load32(volume_row), rest = quantity - volume;
+    uint32_t less = (uint32_t)quantity - 1;
+    w->upper |= raised | (raised + beyond);
+    w->most = less > w->most ? less : w->most;
+    w->sign |= rest;
+
+    /* times 2^28 + 2^15 the head has its side, zone and period in the uppermost bits; the last 1 changes
+       nothing there and keeps it one multiplication */
+    size_t cell = (uint32_t)word * 0x10008001 >> 23;
+    uint32_t gain = (load32(row + 4) ^ t->flip[cell]) + t->shift[cell];
+    uint64_t zero = (int32_t)gain < 0 ? volume : rest;
+    w->some |= zero * gain;
+    t->volume[cell] += (uint32_t)volume;
+    t->surplus[cell] += volume * gain;
+}
+
+/* All steps, two at a time. */
+static inline void walk_steps(const struct files *f, struct tables *t, struct walk *w)
+{
+    const uint64_t beyond = beyond_heads(f->count[ZONE_ROWS], f->count[PERIOD_ROWS], 2);
+    const uint8_t *row = f->rows[STEP_ROWS], *volume = f->rows[VOLUMES];
+    const uint8_t *last = volume + 8 * (f->count[STEP_ROWS] / 2);
+    struct step_walk s = {0, 0, 0, 0};
+    for (; volume != last; row += 2 * STEP, volume += 8) {
+        walk_step(row, volume, beyond, t, &s);
+        walk_step(row + STEP, volume + 4, beyond, t, &s);
     }
-    if (left) {
-        const uint32_t fill = t->price.cell[0];
-        uint32_t row[8][3], volume[8] = {0};
-        for (size_t i = 0; i < 8; i++) row[i][0] = 0, row[i][1] = fill, row[i][2] = 1;
-        memcpy(row, rows, left * STEP);
-        memcpy(volume, volumes, left * 4);
-        for (size_t i = 0; i < 8; i += 4)
-            walk_4_steps((const uint8_t *)(row + i), (const uint8_t *)(volume + i), t, &w);
-    }
-    return w;
+    if (f->count[STEP_ROWS] % 2) walk_step(row, volume, beyond, t, &s);
+    w->upper |= s.upper;
+    w->sign_word |= s.sign;
+    w->some |= s.some | (s.most >= MOST);
 }
 
 /* Blocks: the worth of a block is taken at raised prices and set against its raised limit. */
-INLINE void walk_blocks(const struct files *f, size_t h, struct tables *t, struct walk *w)
+static inline void walk_blocks(const struct files *f, struct tables *t, struct walk *w)
 {
+    const uint64_t beyond = beyond_heads(f->count[ZONE_ROWS], 2, 1);
+    size_t h = f->count[PERIOD_ROWS];
+    uint32_t quantities[WIDTH] = {0};
+    uint64_t upper = 0;
     for (size_t k = 0; k < f->count[BLOCK_ROWS]; k++) {
-        const uint8_t *row = f->rows[BLOCK_ROWS] + k * (8 + 4 * h), *quantities = row + 8;
-        uint32_t head = load32(row), limit = load32(row + 4) + MOST, taken = f->rows[TAKEN][k];
-        size_t zone = head % ZONES * (WIDTH / 4), side = head / 256 % 2;
-        four quantity = {0};
-        two worth = {0};
-        for (size_t i = 0; i < h; i += 4) {
-            four q = load_up_to_4(quantities + 4 * i, h - i);
-            w->some |= outside(q, 0, MOST);
-            quantity += q;
-            worth += EVEN_PRODUCTS(q, t->raised[zone + i / 4]);
-            worth += EVEN_PRODUCTS(odd(q), t->raised_odd[zone + i / 4]);
-        }
-        uint64_t whole = quantity[0] + quantity[1] + quantity[2] + quantity[3];
-        uint64_t gain = side ? whole * limit - sum2(worth) : sum2(worth) - whole * limit;
-        w->heads = GREATER_BYTES(w->heads, (four){head});
-        w->some_word |= taken >> 1;
-        w->sign_word |= (2 * MOST - (uint64_t)limit) | (whole - 1);
+        const uint8_t *row = f->rows[BLOCK_ROWS] + k * (8 + 4 * h);
+        uint64_t raised = load64(row) + RAISE;
+        size_t cells = raised % ZONES * WIDTH, side = raised / 256 % 2, taken = f->rows[TAKEN][k];
+        memcpy(quantities, row + 8, 4 * h);
+        struct row q = walk_row(quantities, (h + 3) / 4, t->even + cells / 2, t->odd + cells / 2);
+        uint64_t whole = (uint32_t)q.sum + (q.sum >> 32), asked = whole * (raised >> 32);
+        uint64_t gain = side ? asked - q.worth : q.worth - asked;
+        upper |= q.upper;
+        w->upper |= raised | (raised + beyond);
+        w->some |= taken >> 1;
+        w->sign_word |= whole - 1;
         if (taken) {
-            four *volume = t->volume.at + side * (CELLS / 4) + zone;
-            for (size_t i = 0; i < h; i += 4) volume[i / 4] += load_up_to_4(quantities + 4 * i, h - i);
+            for (size_t i = 0; i < WIDTH; i++) t->volume[side * CELLS + cells + i] += quantities[i];
             w->sign_word |= gain;
             w->surplus[side] += gain;
         } else {
             w->shortfall += gain >> 63 ? 0 : gain;
         }
     }
+    w->some |= upper & 0x8000000080000000;
 }
 
-/* The whole pass: whether the clearing is accepted, and then its totals. */
-INLINE int walk_all(const struct files *f, size_t h, struct tables *t, uint64_t *totals)
+/* Balance, and the totals; the nets are lifted beyond 16 flows to be unsigned. */
+static inline void walk_balance(const struct files *f, const struct tables *t, const uint32_t *leaving,
+                                struct walk *w, uint64_t *totals)
 {
-    struct walk w = {0};
-    walk_prices(f, h, t, &w);
-    walk_lines(f, h, t, &w);
-    struct step_walk steps = walk_steps(f, t);
-    walk_blocks(f, h, t, &w);
-
-    /* balance; the nets are raised beyond 16 flows to be unsigned */
-    enum { RAISE = 1 << 24 };
-    four bought = {0}, raised = {0};
-    two worth = {0};
-    for (size_t z = 0; z < f->count[ZONE_ROWS]; z++)
-        for (size_t i = 0; i < h; i += 4) {
-            size_t at = (z * WIDTH + i) / 4;
-            four net = t->leaving[at], demand = t->volume.at[at + CELLS / 4];
-            w.some |= t->volume.at[at] - demand - net;
-            bought += demand;
-            raised += t->raised[at];
-            net += RAISE;
-            worth += EVEN_PRODUCTS(net, t->raised[at]) + EVEN_PRODUCTS(odd(net), t->raised_odd[at]);
-        }
-    totals[1] = sum2(steps.buys) + w.surplus[1];
-    totals[2] = sum2(steps.surplus - steps.buys) + w.surplus[0];
-    totals[3] = sum4(raised) * RAISE - sum2(worth);
+    enum { LIFT = 1 << 24 };
+    const size_t fours = (f->count[PERIOD_ROWS] + 3) / 4;
+    uint32_t some = 0, bought = 0, lifted[CELLS];
+    uint64_t worth = 0, raised = 0;
+    for (size_t i = 0; i < CELLS; i++) {
+        uint32_t net = leaving[i], demand = t->volume[CELLS + i];
+        some |= t->volume[i] - demand - net;
+        bought += demand;
+        lifted[i] = net + LIFT;
+        w->surplus[0] += t->surplus[i];
+        w->surplus[1] += t->surplus[CELLS + i];
+    }
+    for (size_t i = 0; i < CELLS; i += WIDTH) {
+        for (size_t j = i / 2; j < i / 2 + 2 * fours; j++) raised += t->even[j] + t->odd[j];
+        worth += walk_row(lifted + i, fours, t->even + i / 2, t->odd + i / 2).worth;
+    }
+    w->some |= some;
+    totals[1] = w->surplus[1];
+    totals[2] = w->surplus[0];
+    totals[3] = raised * LIFT - worth;
     totals[0] = totals[1] + totals[2] + totals[3];
-    totals[4] = sum4(bought);
-    totals[5] = w.shortfall;
-
-    uint32_t zone = (uint32_t)f->count[ZONE_ROWS] - 1, step = zone | (uint32_t)(h - 1) << 8 | 1 << 16;
-    bytes far_steps = (bytes)steps.heads > (bytes)((four){0} + step);
-    bytes far_blocks = (bytes)w.heads > (bytes)((four){0} + (zone | 1 << 8));
-    two doubt = (two)(w.some | (w.sign | steps.sign) >> 31 | (four)far_steps | (four)far_blocks);
-    return !(doubt[0] | doubt[1] | w.some_word | w.sign_word >> 63);
+    totals[4] = bought;
+    totals[5] = w->shortfall;
 }
 
-/* Days have 24 hours, or 23 or 25 at a clock change: those get a pass of their own. */
-static int quick(const struct files *f, struct tables *t, uint64_t *totals)
+static int quick(const struct files *f, uint32_t *leaving, uint64_t *totals)
 {
-    switch (f->count[PERIOD_ROWS]) {
-    case 23: return walk_all(f, 23, t, totals);
-    case 24: return walk_all(f, 24, t, totals);
-    case 25: return walk_all(f, 25, t, totals);
-    default: return walk_all(f, f->count[PERIOD_ROWS], t, totals);
-    }
-}
-
-/* -------------------------------------------------- the plain judge, for what is refused */
-
-static const uint8_t *row_at(const struct files *f, int s, size_t r) { return f->rows[s] + f->size[s] * r; }
-
-static int64_t price_at(const struct files *f, size_t zone, size_t period)
-{
-    return signed32(row_at(f, PRICES, zone * f->count[PERIOD_ROWS] + period));
-}
-
-static int in_range(int64_t v, int64_t least, int64_t most) { return least <= v && v <= most; }
-
-static int is_price(const uint8_t *p) { return in_range(signed32(p), -MOST, MOST); }
-
-static uint32_t greatest(const uint8_t *numbers, size_t n)
-{
-    uint32_t most = 0;
-    for (size_t i = 0; i < n; i++)
-        if (load32(numbers + 4 * i) > most) most = load32(numbers + 4 * i);
-    return most;
-}
-
-/* Whether row r of section s keeps its fields' ranges and its section's rule. */
-static int row_holds(const struct files *f, int s, size_t r)
-{
-    size_t h = f->count[PERIOD_ROWS], zones = f->count[ZONE_ROWS];
-    const uint8_t *row = row_at(f, s, r);
-    switch (s) {
-    case PERIOD_ROWS: return is_price(row) && is_price(row + 4) && signed32(row) <= signed32(row + 4);
-    case ZONE_ROWS: return load16(row) > (r ? load16(row - 2) : 0);
-    case LINE_ROWS:
-        return row[0] < zones && row[1] < zones && row[0] != row[1] && greatest(row + 2, 2 * h) <= MOST;
-    case STEP_ROWS:
-        return row[0] < zones && row[1] < h && row[2] <= 1 && row[3] == 0 && is_price(row + 4)
-               && in_range(load32(row + 8), 1, MOST);
-    case BLOCK_ROWS:
-        return row[0] < zones && row[1] <= 1 && load16(row + 2) == 0 && is_price(row + 4)
-               && in_range(greatest(row + 8, h), 1, MOST);
-    case VOLUMES: return load32(row) <= MOST;
-    case TAKEN: return row[0] <= 1;
-    default: return is_price(row);
-    }
-}
-
-static uint8_t refuse(size_t *place, int number, size_t first, size_t second)
-{
-    place[0] = first;
-    place[1] = second;
-    return (uint8_t)number;
-}
-
-/* Refusals 1 to 8: section by section, the rows of each before the next is opened. */
-static uint8_t judge_reading(struct files *f, struct rest day, struct rest clearing, size_t *place)
-{
-    for (int s = 0; s < SECTIONS; s++) {
-        size_t section = (size_t)(s < PRICES ? s + 1 : s - PRICES + 1);
-        if (s == PRICES && day.length) return refuse(place, 4, 0, 0);
-        int fault = open_next(f, s, &day, &clearing);
-        if (fault) return refuse(place, fault, section, 0);
-        for (size_t r = 0; r < f->count[s]; r++)
-            if (!row_holds(f, s, r)) return refuse(place, s < PRICES ? 3 : 7, section, r);
-    }
-    return refuse(place, clearing.length ? 8 : 0, 0, 0);
-}
-
-/* Supply less demand and less what leaves, for each zone and period. */
-static void gather_imbalance(const struct files *f, int64_t imbalance[ZONES][PERIODS])
-{
-    size_t h = f->count[PERIOD_ROWS];
-    for (size_t r = 0; r < f->count[STEP_ROWS]; r++) {
-        const uint8_t *row = row_at(f, STEP_ROWS, r);
-        int64_t volume = load32(row_at(f, VOLUMES, r));
-        imbalance[row[0]][row[1]] += row[2] ? -volume : volume;
-    }
-    for (size_t i = 0; i < h; i++) {
-        for (size_t k = 0; k < f->count[BLOCK_ROWS]; k++) {
-            const uint8_t *row = row_at(f, BLOCK_ROWS, k);
-            int64_t volume = f->rows[TAKEN][k] ? load32(row + 8 + 4 * i) : 0;
-            imbalance[row[0]][i] += row[1] ? -volume : volume;
-        }
-        for (size_t l = 0; l < f->count[LINE_ROWS]; l++) {
-            const uint8_t *row = row_at(f, LINE_ROWS, l);
-            int64_t flow = signed32(row_at(f, FLOWS, l * h + i));
-            imbalance[row[0]][i] -= flow;
-            imbalance[row[1]][i] += flow;
-        }
-    }
-}
-
-/* Whether rule 12 or 16 holds on a line in a period. */
-static int line_holds(const struct files *f, int rule, size_t l, size_t i)
-{
-    const uint8_t *row = row_at(f, LINE_ROWS, l);
-    int64_t forward = load32(row + 2 + 8 * i), back = load32(row + 6 + 8 * i);
-    int64_t flow = signed32(row_at(f, FLOWS, l * f->count[PERIOD_ROWS] + i));
-    int64_t dearer = price_at(f, row[1], i) - price_at(f, row[0], i);
-    if (rule == 12) return in_range(flow, -back, forward);
-    return dearer == 0 || flow == (dearer > 0 ? forward : -back);
-}
-
-/* Whether rule 13 or 15 holds for a step. */
-static int step_holds(const struct files *f, int rule, size_t r)
-{
-    const uint8_t *row = row_at(f, STEP_ROWS, r);
-    uint32_t quantity = load32(row + 8), volume = load32(row_at(f, VOLUMES, r));
-    int64_t gain = price_at(f, row[0], row[1]) - signed32(row + 4);
-    if (rule == 13) return volume <= quantity;
-    return gain == 0 || volume == ((gain > 0) == (row[2] == 0) ? quantity : 0);
-}
-
-/* Whether rule 17 holds for a block. */
-static int block_holds(const struct files *f, size_t k)
-{
-    const uint8_t *row = row_at(f, BLOCK_ROWS, k);
-    int64_t gain = 0;
-    for (size_t i = 0; i < f->count[PERIOD_ROWS]; i++)
-        gain += (int64_t)load32(row + 8 + 4 * i) * (price_at(f, row[0], i) - signed32(row + 4));
-    return !f->rows[TAKEN][k] || (row[1] ? gain <= 0 : gain >= 0);
-}
-
-static int rule_holds(const struct files *f, int rule, size_t r, size_t i, int64_t imbalance[ZONES][PERIODS])
-{
-    const uint8_t *bounds = row_at(f, PERIOD_ROWS, i);
-    switch (rule) {
-    case 11: return in_range(price_at(f, r, i), signed32(bounds), signed32(bounds + 4));
-    case 14: return imbalance[r][i] == 0;
-    case 12: case 16: return line_holds(f, rule, r, i);
-    case 13: case 15: return step_holds(f, rule, r);
-    default: return block_holds(f, r);
-    }
-}
-
-/* Refusals 11 to 17: rule by rule, each over all its places, which are those of a section's rows. */
-static uint8_t judge_rules(const struct files *f, size_t *place)
-{
-    static const int over[] = {ZONE_ROWS, LINE_ROWS, STEP_ROWS, ZONE_ROWS, STEP_ROWS, LINE_ROWS, BLOCK_ROWS};
-    int64_t imbalance[ZONES][PERIODS] = {{0}};
-    gather_imbalance(f, imbalance);
-    for (int rule = 11; rule <= 17; rule++) {
-        int s = over[rule - 11];
-        size_t periods = s == ZONE_ROWS || s == LINE_ROWS ? f->count[PERIOD_ROWS] : 1;
-        for (size_t r = 0; r < f->count[s]; r++)
-            for (size_t i = 0; i < periods; i++)
-                if (!rule_holds(f, rule, r, i, imbalance)) return refuse(place, rule, r, i);
-    }
-    return refuse(place, 0, 0, 0);
-}
-
-/* -------------------------------------------------- the check */
-
-/* Opens all sections at once, their rows unread: whether both files have the right lengths and counts. */
-INLINE int open_all(struct files *f, struct rest day, struct rest clearing)
-{
-    for (int s = 0; s < SECTIONS; s++)
-        if (open_next(f, s, &day, &clearing)) return 0;
-    return day.length == 0 && clearing.length == 0;
-}
-
-/* The nets of a clearing in balance are what leaves. */
-INLINE void write_statement(const struct files *f, const struct tables *t, const uint64_t *totals,
-                            uint8_t *room)
-{
-    size_t h = f->count[PERIOD_ROWS];
-    const uint16_t counts[2] = {TOTALS, (uint16_t)f->count[PRICES]};
-    memcpy(room, &counts[0], 2);
-    memcpy(room + 2, totals, 8 * TOTALS);
-    memcpy(room + HEAD - 2, &counts[1], 2);
-    for (size_t z = 0; z < f->count[ZONE_ROWS]; z++)
-        memcpy(room + HEAD + 4 * z * h, &t->leaving[z * WIDTH / 4], 4 * h);
+    struct tables t;
+    struct walk w = {0};
+    walk_prices(f, &t, &w);
+    walk_lines(f, &t, leaving, &w);
+    walk_steps(f, &t, &w);
+    walk_blocks(f, &t, &w);
+    walk_balance(f, &t, leaving, &w, totals);
+    return !(w.some | w.sign >> 31 | w.sign_word >> 63 | (w.upper & UPPER));
 }
 
 uint8_t rival_check(const uint8_t *day, size_t day_length, const uint8_t *clearing, size_t clearing_length,
                     uint8_t *room, size_t room_length, size_t *place, size_t places)
 {
-    if (places != 2) return 255;
     const struct rest day_rest = {day, day_length}, clearing_rest = {clearing, clearing_length};
-    struct files f;
-    struct tables t;
-    uint64_t totals[TOTALS];
-    if (!open_all(&f, day_rest, clearing_rest) || !quick(&f, &t, totals)) {
-        uint8_t fault = judge_reading(&f, day_rest, clearing_rest, place);
-        return fault ? fault : judge_rules(&f, place);
-    }
-    if (room_length < HEAD + 4 * f.count[PRICES]) return refuse(place, 18, 0, 0);
-    write_statement(&f, &t, totals, room);
-    return refuse(place, 0, 0, 0);
+    return check_by(quick, day_rest, clearing_rest, room, room_length, place, places);
 }

@@ -1,0 +1,269 @@
+/* What both rivals share: opening the sections, the plain judge, and the check around a quick pass.
+
+   A check opens all sections and runs the quick pass, which reads every row once and says whether the
+   clearing is accepted. At any doubt the plain judge goes through the rules in order and names the fault. A
+   quick pass may lean on facts that hold for every accepted clearing:
+   - a price between floor and ceiling, a flow within its capacities and a volume within its quantity are in
+     range when those bounds are, so they need no range test of their own;
+   - an accepted step gains at least nothing, so its surplus is a product of unsigned numbers;
+   - in balance the nets are the flows leaving less those entering and sum to 0, so the rent is minus the
+     sum of price times net, and the order value is both surpluses and the rent. */
+#ifndef JUDGE_H
+#define JUDGE_H
+
+#include <stddef.h>
+#include <stdint.h>
+#include <string.h>
+
+enum { MOST = 1000000, PERIODS = 25, ZONES = 8, LINES = 16, STEPS = 2000, BLOCKS = 100 };
+enum { STEP = 12, TOTALS = 6, HEAD = 2 + 8 * TOTALS + 2 };
+
+/* A cell is zone times 32 plus period. */
+enum { WIDTH = 32, CELLS = ZONES * WIDTH };
+
+static inline uint32_t load16(const uint8_t *p) { uint16_t v; memcpy(&v, p, 2); return v; }
+static inline uint32_t load32(const uint8_t *p) { uint32_t v; memcpy(&v, p, 4); return v; }
+static inline int64_t signed32(const uint8_t *p) { int32_t v; memcpy(&v, p, 4); return v; }
+
+/* -------------------------------------------------- the files and their sections */
+
+enum { PERIOD_ROWS, ZONE_ROWS, LINE_ROWS, STEP_ROWS, BLOCK_ROWS, PRICES, FLOWS, VOLUMES, TAKEN, SECTIONS };
+
+struct files {
+    size_t count[SECTIONS], size[SECTIONS]; /* how many rows, how long each */
+    const uint8_t *rows[SECTIONS];
+};
+
+struct rest {
+    const uint8_t *at;
+    size_t length;
+};
+
+/* Opens a section: its count, the count's limits, room for all rows. `cut` is 1 in the day file and 5 in the
+   clearing file; the other refusals of a file follow it. Gives 0 or the refusal. */
+static inline int open_section(struct files *f, int s, struct rest *rest, size_t least, size_t most,
+                               size_t size, int cut)
+{
+    if (rest->length < 2) return cut;
+    size_t count = load16(rest->at);
+    if (count < least || count > most) return cut + 1;
+    if (rest->length - 2 < count * size) return cut;
+    f->count[s] = count;
+    f->size[s] = size;
+    f->rows[s] = rest->at + 2;
+    rest->at += 2 + count * size;
+    rest->length -= 2 + count * size;
+    return 0;
+}
+
+/* Opens section s of the nine, all before it being open. */
+static inline int open_next(struct files *f, int s, struct rest *day, struct rest *clearing)
+{
+    const size_t *n = f->count, h = s > PERIOD_ROWS ? n[PERIOD_ROWS] : 0;
+    switch (s) {
+    case PERIOD_ROWS: return open_section(f, s, day, 1, PERIODS, 8, 1);
+    case ZONE_ROWS: return open_section(f, s, day, 1, ZONES, 2, 1);
+    case LINE_ROWS: return open_section(f, s, day, 0, LINES, 2 + 8 * h, 1);
+    case STEP_ROWS: return open_section(f, s, day, 0, STEPS, STEP, 1);
+    case BLOCK_ROWS: return open_section(f, s, day, 0, BLOCKS, 8 + 4 * h, 1);
+    case PRICES: return open_section(f, s, clearing, n[ZONE_ROWS] * h, n[ZONE_ROWS] * h, 4, 5);
+    case FLOWS: return open_section(f, s, clearing, n[LINE_ROWS] * h, n[LINE_ROWS] * h, 4, 5);
+    case VOLUMES: return open_section(f, s, clearing, n[STEP_ROWS], n[STEP_ROWS], 4, 5);
+    default: return open_section(f, s, clearing, n[BLOCK_ROWS], n[BLOCK_ROWS], 1, 5);
+    }
+}
+
+/* -------------------------------------------------- the plain judge, for what is refused */
+
+static const uint8_t *row_at(const struct files *f, int s, size_t r) { return f->rows[s] + f->size[s] * r; }
+
+static int64_t price_at(const struct files *f, size_t zone, size_t period)
+{
+    return signed32(row_at(f, PRICES, zone * f->count[PERIOD_ROWS] + period));
+}
+
+static int in_range(int64_t v, int64_t least, int64_t most) { return least <= v && v <= most; }
+
+static int is_price(const uint8_t *p) { return in_range(signed32(p), -MOST, MOST); }
+
+static uint32_t greatest(const uint8_t *numbers, size_t n)
+{
+    uint32_t most = 0;
+    for (size_t i = 0; i < n; i++)
+        if (load32(numbers + 4 * i) > most) most = load32(numbers + 4 * i);
+    return most;
+}
+
+/* Whether row r of section s keeps its fields' ranges and its section's rule. */
+static int row_holds(const struct files *f, int s, size_t r)
+{
+    size_t h = f->count[PERIOD_ROWS], zones = f->count[ZONE_ROWS];
+    const uint8_t *row = row_at(f, s, r);
+    switch (s) {
+    case PERIOD_ROWS: return is_price(row) && is_price(row + 4) && signed32(row) <= signed32(row + 4);
+    case ZONE_ROWS: return load16(row) > (r ? load16(row - 2) : 0);
+    case LINE_ROWS:
+        return row[0] < zones && row[1] < zones && row[0] != row[1] && greatest(row + 2, 2 * h) <= MOST;
+    case STEP_ROWS:
+        return row[0] < zones && row[1] < h && row[2] <= 1 && row[3] == 0 && is_price(row + 4)
+               && in_range(load32(row + 8), 1, MOST);
+    case BLOCK_ROWS:
+        return row[0] < zones && row[1] <= 1 && load16(row + 2) == 0 && is_price(row + 4)
+               && in_range(greatest(row + 8, h), 1, MOST);
+    case VOLUMES: return load32(row) <= MOST;
+    case TAKEN: return row[0] <= 1;
+    default: return is_price(row);
+    }
+}
+
+static uint8_t refuse(size_t *place, int number, size_t first, size_t second)
+{
+    place[0] = first;
+    place[1] = second;
+    return (uint8_t)number;
+}
+
+/* Refusals 1 to 8: section by section, the rows of each before the next is opened. */
+static uint8_t judge_reading(struct files *f, struct rest day, struct rest clearing, size_t *place)
+{
+    for (int s = 0; s < SECTIONS; s++) {
+        size_t section = (size_t)(s < PRICES ? s + 1 : s - PRICES + 1);
+        if (s == PRICES && day.length) return refuse(place, 4, 0, 0);
+        int fault = open_next(f, s, &day, &clearing);
+        if (fault) return refuse(place, fault, section, 0);
+        for (size_t r = 0; r < f->count[s]; r++)
+            if (!row_holds(f, s, r)) return refuse(place, s < PRICES ? 3 : 7, section, r);
+    }
+    return refuse(place, clearing.length ? 8 : 0, 0, 0);
+}
+
+/* Supply less demand and less what leaves, for each zone and period. */
+static void gather_imbalance(const struct files *f, int64_t imbalance[ZONES][PERIODS])
+{
+    size_t h = f->count[PERIOD_ROWS];
+    for (size_t r = 0; r < f->count[STEP_ROWS]; r++) {
+        const uint8_t *row = row_at(f, STEP_ROWS, r);
+        int64_t volume = load32(row_at(f, VOLUMES, r));
+        imbalance[row[0]][row[1]] += row[2] ? -volume : volume;
+    }
+    for (size_t i = 0; i < h; i++) {
+        for (size_t k = 0; k < f->count[BLOCK_ROWS]; k++) {
+            const uint8_t *row = row_at(f, BLOCK_ROWS, k);
+            int64_t volume = f->rows[TAKEN][k] ? load32(row + 8 + 4 * i) : 0;
+            imbalance[row[0]][i] += row[1] ? -volume : volume;
+        }
+        for (size_t l = 0; l < f->count[LINE_ROWS]; l++) {
+            const uint8_t *row = row_at(f, LINE_ROWS, l);
+            int64_t flow = signed32(row_at(f, FLOWS, l * h + i));
+            imbalance[row[0]][i] -= flow;
+            imbalance[row[1]][i] += flow;
+        }
+    }
+}
+
+/* Whether rule 12 or 16 holds on a line in a period. */
+static int line_holds(const struct files *f, int rule, size_t l, size_t i)
+{
+    const uint8_t *row = row_at(f, LINE_ROWS, l);
+    int64_t forward = load32(row + 2 + 8 * i), back = load32(row + 6 + 8 * i);
+    int64_t flow = signed32(row_at(f, FLOWS, l * f->count[PERIOD_ROWS] + i));
+    int64_t dearer = price_at(f, row[1], i) - price_at(f, row[0], i);
+    if (rule == 12) return in_range(flow, -back, forward);
+    return dearer == 0 || flow == (dearer > 0 ? forward : -back);
+}
+
+/* Whether rule 13 or 15 holds for a step. */
+static int step_holds(const struct files *f, int rule, size_t r)
+{
+    const uint8_t *row = row_at(f, STEP_ROWS, r);
+    uint32_t quantity = load32(row + 8), volume = load32(row_at(f, VOLUMES, r));
+    int64_t gain = price_at(f, row[0], row[1]) - signed32(row + 4);
+    if (rule == 13) return volume <= quantity;
+    return gain == 0 || volume == ((gain > 0) == (row[2] == 0) ? quantity : 0);
+}
+
+/* Whether rule 17 holds for a block. */
+static int block_holds(const struct files *f, size_t k)
+{
+    const uint8_t *row = row_at(f, BLOCK_ROWS, k);
+    int64_t gain = 0;
+    for (size_t i = 0; i < f->count[PERIOD_ROWS]; i++)
+        gain += (int64_t)load32(row + 8 + 4 * i) * (price_at(f, row[0], i) - signed32(row + 4));
+    return !f->rows[TAKEN][k] || (row[1] ? gain <= 0 : gain >= 0);
+}
+
+static int rule_holds(const struct files *f, int rule, size_t r, size_t i, int64_t imbalance[ZONES][PERIODS])
+{
+    const uint8_t *bounds = row_at(f, PERIOD_ROWS, i);
+    switch (rule) {
+    case 11: return in_range(price_at(f, r, i), signed32(bounds), signed32(bounds + 4));
+    case 14: return imbalance[r][i] == 0;
+    case 12: case 16: return line_holds(f, rule, r, i);
+    case 13: case 15: return step_holds(f, rule, r);
+    default: return block_holds(f, r);
+    }
+}
+
+/* Refusals 11 to 17: rule by rule, each over all its places, which are those of a section's rows. */
+static uint8_t judge_rules(const struct files *f, size_t *place)
+{
+    static const int over[] = {ZONE_ROWS, LINE_ROWS, STEP_ROWS, ZONE_ROWS, STEP_ROWS, LINE_ROWS, BLOCK_ROWS};
+    int64_t imbalance[ZONES][PERIODS] = {{0}};
+    gather_imbalance(f, imbalance);
+    for (int rule = 11; rule <= 17; rule++) {
+        int s = over[rule - 11];
+        size_t periods = s == ZONE_ROWS || s == LINE_ROWS ? f->count[PERIOD_ROWS] : 1;
+        for (size_t r = 0; r < f->count[s]; r++)
+            for (size_t i = 0; i < periods; i++)
+                if (!rule_holds(f, rule, r, i, imbalance)) return refuse(place, rule, r, i);
+    }
+    return refuse(place, 0, 0, 0);
+}
+
+/* -------------------------------------------------- the check */
+
+/* Opens all sections at once, their rows unread: whether both files have the right lengths and counts. */
+static inline int open_all(struct files *f, struct rest day, struct rest clearing)
+{
+    for (int s = 0; s < SECTIONS; s++)
+        if (open_next(f, s, &day, &clearing)) return 0;
+    return day.length == 0 && clearing.length == 0;
+}
+
+/* A quick pass: whether the clearing is accepted, and then the totals, and for each cell the flows leaving
+   less those entering, which it adds to zeros. */
+typedef int quick_pass(const struct files *f, uint32_t *leaving, uint64_t *totals);
+
+/* The nets of a clearing in balance are what leaves. */
+static inline void write_statement(const struct files *f, const uint32_t *leaving, const uint64_t *totals,
+                                   uint8_t *room)
+{
+    size_t h = f->count[PERIOD_ROWS];
+    const uint16_t counts[2] = {TOTALS, (uint16_t)f->count[PRICES]};
+    memcpy(room, &counts[0], 2);
+    memcpy(room + 2, totals, 8 * TOTALS);
+    memcpy(room + HEAD - 2, &counts[1], 2);
+    for (size_t z = 0; z < f->count[ZONE_ROWS]; z++)
+        memcpy(room + HEAD + 4 * z * h, leaving + z * WIDTH, 4 * h);
+}
+
+/* Judges a clearing file against a day file: 0 accepted, 1 to 8 and 11 to 18 refused, with the two numbers
+   of the place. On acceptance the statement stands at the front of the room; a refusal leaves the room as it
+   was. `places` is the length of `place` and must be 2, else the answer is 255 and nothing changes. */
+static inline uint8_t check_by(quick_pass *quick, struct rest day, struct rest clearing, uint8_t *room,
+                               size_t room_length, size_t *place, size_t places)
+{
+    if (places != 2) return 255;
+    struct files f;
+    _Alignas(16) uint32_t leaving[CELLS] = {0}; /* aligned as vectors are */
+    uint64_t totals[TOTALS];
+    if (!open_all(&f, day, clearing) || !quick(&f, leaving, totals)) {
+        uint8_t fault = judge_reading(&f, day, clearing, place);
+        return fault ? fault : judge_rules(&f, place);
+    }
+    if (room_length < HEAD + 4 * f.count[PRICES]) return refuse(place, 18, 0, 0);
+    write_statement(&f, leaving, totals, room);
+    return refuse(place, 0, 0, 0);
+}
+
+#endif
