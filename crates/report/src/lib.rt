@@ -8,35 +8,35 @@ ghost use Prim.Native.Nat.{_<_};
 ghost use Rattle.verdict.specs.Verdict.{numberOf};
 ghost use Rattle.verdict.specs.Verdict as meaning;
 
-fn number(n: usize) {
+fn say_number(n: usize) {
     io::print_decimal(STDOUT_FILENO, n as u64);
 }
 
 // ---- the verdict and the totals
 
-fn verdict(kind: u8, place: Place) {
+fn say_verdict(number: u8, place: Place) {
     print::text(b"verdict ");
-    number(kind as usize);
+    say_number(number as usize);
     print::text(b" ");
-    number(place.first);
+    say_number(place.first);
     print::text(b" ");
-    number(place.second);
+    say_number(place.second);
     print::text(b"\n");
 }
 
-fn total(name: &[u8], v: i64) {
+fn say_total(name: &[u8], v: i64) {
     print::text(name);
     print::signed(v);
     print::text(b"\n");
 }
 
-fn totals(t: Totals) {
-    total(b"order value ", t.value);
-    total(b"buyers ", t.buyers);
-    total(b"sellers ", t.sellers);
-    total(b"rent ", t.rent);
-    total(b"traded ", t.traded);
-    total(b"shortfall ", t.shortfall);
+fn say_totals(t: Totals) {
+    say_total(b"order value ", t.value);
+    say_total(b"buyers ", t.buyers);
+    say_total(b"sellers ", t.sellers);
+    say_total(b"rent ", t.rent);
+    say_total(b"traded ", t.traded);
+    say_total(b"shortfall ", t.shortfall);
 }
 
 // ---- the net positions, as the statement in the room has them
@@ -61,22 +61,22 @@ fn i32_or_zero(s: &[u8], at: usize) -> i64 {
     0
 }
 
-fn net(codes: &[u8], room: &[u8], periods: usize, k: usize)
+fn say_net(codes: &[u8], room: &[u8], periods: usize, k: usize)
     requires { ⌜ (0 < periods) × (k < 65536) ⌝ }
 {
     print::text(b"net ");
-    number(u16_or_zero(codes, 2 * (k / periods)));
+    say_number(u16_or_zero(codes, 2 * (k / periods)));
     print::text(b" ");
-    number(k % periods);
+    say_number(k % periods);
     print::text(b" ");
     print::signed(i32_or_zero(room, 52 + 4 * k));
     print::text(b"\n");
 }
 
-fn nets(codes: &[u8], room: &[u8], periods: usize) {
+fn say_nets(codes: &[u8], room: &[u8], periods: usize) {
     if 0 < periods {
         for k in 0..u16_or_zero(room, 50) {
-            net(codes, room, periods, k);
+            say_net(codes, room, periods, k);
         }
     }
 }
@@ -88,20 +88,20 @@ pub fn outcome(outcome: Outcome, day: &[u8], room: &[u8]) -> u8
     ensures { λ r. ⌜ r ≡ numberOf outcome ⌝ }
 {
     match outcome {
-        Outcome::Refused(kind, place) => {
-            verdict(kind, place);
-            kind
+        Outcome::Refused(number, place) => {
+            say_verdict(number, place);
+            number
         }
         Outcome::Accepted(t) => {
-            verdict(
+            say_verdict(
                 0,
                 Place {
                     first: 0,
                     second: 0,
                 },
             );
-            totals(t);
-            nets(
+            say_totals(t);
+            say_nets(
                 lookup::look_up(day, 2),
                 room,
                 lookup::look_up(day, 1).len() / 8,
