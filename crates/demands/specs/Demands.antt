@@ -157,9 +157,10 @@ longest-statement g = omega (arith, prices-most (in-limits g))
 
 -- a room as long as that is never too short
 pub long-room : {day clearing before after : List ℕ} {outcome : Outcome} → Checked day clearing before outcome after → 852 ≤ length before →
-    outcome ≡ Refused 18 (place 0 0) → ⊥
-long-room c l e =
-    let short = refused-by-room c .0 e in
+    numberOf outcome ≡ 18 → ⊥
+long-room {outcome = Accepted t} c l e = omega (arith, e)
+long-room {day} {clearing} {before} {outcome = Refused k p} c l e =
+    let short = refusals.too-short day clearing (length before) p (sym (c .said) ∙ ap (λ (n : ℕ). Refused n p) e) in
     omega (arith, l, short .room-lacks, longest-statement (short .day-reads))
 
 -- two calls with the same files and the same room have the same outcome and leave the same room

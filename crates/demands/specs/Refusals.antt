@@ -122,27 +122,24 @@ module _ (day clearing : List ℕ) (room : ℕ) where
   room-number k p (inl b) = b .number
   room-number k p (inr m) = absurd (m .1)
 
-  room-broken : Means (roomStage day room ∷ []) (Broken 18 (place 0 0)) ↔ (room < statementLengthOf day)
-  room-broken = (to, from)
-    where
-      to : Means (roomStage day room ∷ []) (Broken 18 (place 0 0)) → room < statementLengthOf day
-      to (inl b) = leb-false (statementLengthOf day) room (b .breaks .fails)
-      to (inr m) = absurd (m .1)
+  room-lacks : (k : ℕ) (p : Place) → Means (roomStage day room ∷ []) (Broken k p) → room < statementLengthOf day
+  room-lacks k p (inl b) = leb-false (statementLengthOf day) room (b .breaks .fails)
+  room-lacks k p (inr m) = absurd (m .1)
 
-      from : room < statementLengthOf day → Means (roomStage day room ∷ []) (Broken 18 (place 0 0))
-      from l = inl (record {
-        row = 0;
-        col = 0;
-        number = refl;
-        named = refl;
-        breaks = record {
-          row = omega arith;
-          col = omega arith;
-          fails = lt-leb (statementLengthOf day) room l;
-          above = λ y j m _. absurd (omega (arith, m));
-          left = λ j m. absurd (omega (arith, m));
-        };
-      })
+  room-broken : room < statementLengthOf day → Means (roomStage day room ∷ []) (Broken 18 (place 0 0))
+  room-broken l = inl (record {
+    row = 0;
+    col = 0;
+    number = refl;
+    named = refl;
+    breaks = record {
+      row = omega arith;
+      col = omega arith;
+      fails = lt-leb (statementLengthOf day) room l;
+      above = λ y j m _. absurd (omega (arith, m));
+      left = λ j m. absurd (omega (arith, m));
+    };
+  })
 
   broken-number : (k : ℕ) (p : Place) → Means (stages day clearing room) (Broken k p) → FromTo 1 8 k ⊎ FromTo 11 18 k
   broken-number k p m = ⊎-elim (λ b. inl (in-files b)) (λ b. inr (⊎-elim in-rules in-room (broken-++ ruled (roomStage day room ∷ []) k p .0 (b .1))))
@@ -231,25 +228,26 @@ module _ (day clearing : List ℕ) (room : ℕ) where
       )
 
   -- A refusal with the number 18: the files read, every rule holds, and the room is shorter than the statement.
+  pub too-short : (p : Place) → verdict day clearing room ≡ Refused 18 p → TooShort day clearing room
+  too-short p e =
+      let m = past-files 18 p (omega arith) .0 e in
+      let numbers = rule-numbers (dayOf day) (pricesOf day clearing) (choiceOf day clearing) in
+      let h : Means ruled Clean × Means (roomStage day room ∷ []) (Broken 18 p) = ⊎-elim
+      (λ b. absurd (omega (arith, numbered (FromTo 11 17) ruled numbers 18 p b .1)))
+      (λ b. b)
+      (broken-++ ruled (roomStage day room ∷ []) 18 p .0 (m .1)) in
+      record {
+        day-reads = m .0 .0;
+        clearing-reads = m .0 .1;
+        rules-hold = lawful-is (dayOf day) (pricesOf day clearing) (choiceOf day clearing) .0 (h .0);
+        room-lacks = room-lacks 18 p (h .1);
+      }
+
   pub refused-by-room : (verdict day clearing room ≡ Refused 18 (place 0 0)) ↔ TooShort day clearing room
-  refused-by-room =
-      let d = dayOf day in
-      let p = pricesOf day clearing in
-      let c = choiceOf day clearing in
-      let past = past-files 18 (place 0 0) (omega arith) in
-      let split = broken-++ ruled (roomStage day room ∷ []) 18 (place 0 0) in
-      let lawful = lawful-is d p c in (
-        λ e.
-            let m = past .0 e in
-            let h : Means ruled Clean × Means (roomStage day room ∷ []) (Broken 18 (place 0 0)) = ⊎-elim
-            (λ b. absurd (omega (arith, numbered (FromTo 11 17) ruled (rule-numbers d p c) 18 (place 0 0) b .1)))
-            (λ b. b)
-            (split .0 (m .1)) in
-            record {
-              day-reads = m .0 .0;
-              clearing-reads = m .0 .1;
-              rules-hold = lawful .0 (h .0);
-              room-lacks = room-broken .0 (h .1);
-            },
-        λ s. past .1 ((s .day-reads, s .clearing-reads), split .1 (inr (lawful .1 (s .rules-hold), room-broken .1 (s .room-lacks)))),
-      )
+  refused-by-room = (
+    too-short (place 0 0),
+    λ s.
+        let lawful = lawful-is (dayOf day) (pricesOf day clearing) (choiceOf day clearing) .1 (s .rules-hold) in
+        let broken = broken-++ ruled (roomStage day room ∷ []) 18 (place 0 0) .1 (inr (lawful, room-broken (s .room-lacks))) in
+        past-files 18 (place 0 0) (omega arith) .1 ((s .day-reads, s .clearing-reads), broken),
+  )

@@ -12,6 +12,14 @@ pub fn text(s: &[u8]) -> usize
     s.len()
 }
 
+// Prints a number in plain decimal, and gives it back.
+pub fn number(n: usize) -> usize
+    ensures { λ r. ⌜ r ≡ n ⌝ }
+{
+    io::print_decimal(STDOUT_FILENO, n as u64);
+    n
+}
+
 // Prints a whole number in plain decimal, with a minus sign where it is below zero. Gives what it printed behind the sign.
 pub fn signed(v: i64) -> u64
     ensures { λ r. ⌜ r ≡ natAbs v ⌝ }

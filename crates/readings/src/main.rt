@@ -1,34 +1,27 @@
 // Runs both readers and the look-up on day A and clearing A, whole, cut at every length, and with each byte altered, and writes the
 // number and the place that each gets.
 use clearing::Files;
-use libc::STDOUT_FILENO;
 use stages::Fault;
 use stages::Place;
 ghost use mathlib.Core.Path.{_≡_};
 ghost use lib.ListN.{length};
 ghost use Rattle.io.specs.Counts.{Counts};
 
-fn say(text: &[u8]) {
-    io::write_all(STDOUT_FILENO, text);
-}
-
-fn say_number(n: usize) {
-    io::print_decimal(STDOUT_FILENO, n as u64);
-}
-
 fn say_place(number: u8, place: Place) {
-    say(b" ");
-    say_number(number as usize);
-    say(b" ");
-    say_number(place.first);
-    say(b" ");
-    say_number(place.second);
+    print::text(b" ");
+    print::number(number as usize);
+    print::text(b" ");
+    print::number(place.first);
+    print::text(b" ");
+    print::number(place.second);
 }
 
 fn say_fault(fault: Fault) {
     match fault {
         Fault::Broken(k, p) => say_place(k, p),
-        Fault::Clean => say(b" 0 0 0"),
+        Fault::Clean => {
+            print::text(b" 0 0 0");
+        }
     }
 }
 
@@ -43,11 +36,11 @@ fn fault_of(files: Files) -> Fault {
 
 fn say_reading(day: &[u8], clearing: &[u8]) {
     say_fault(fault_of(clearing::read_files(day, clearing)));
-    say(b"\n");
+    print::text(b"\n");
 }
 
 fn say_named(name: &[u8], day: &[u8], clearing: &[u8]) {
-    say(name);
+    print::text(name);
     say_reading(day, clearing);
 }
 
@@ -60,9 +53,9 @@ const CLEARING: u8 = 1;
 
 fn say_file(file: u8) {
     if file == DAY {
-        say(b"day");
+        print::text(b"day");
     } else {
-        say(b"clearing");
+        print::text(b"clearing");
     }
 }
 
@@ -85,8 +78,8 @@ fn first<'a>(s: &'a [u8], n: usize) -> &'a [u8] {
 
 fn say_cut<'a>(file: u8, n: usize, day: &'a [u8], clearing: &'a [u8]) {
     say_file(file);
-    say(b" cut to ");
-    say_number(n);
+    print::text(b" cut to ");
+    print::number(n);
     say_changed(file, first(chosen(file, day, clearing), n), day, clearing);
 }
 
@@ -117,10 +110,10 @@ fn altered(s: &[u8], at: usize, value: u8) -> [u8; 128]
 
 fn say_edit<'a>(file: u8, at: u8, value: u8, day: &'a [u8], clearing: &'a [u8]) {
     say_file(file);
-    say(b" byte ");
-    say_number(at as usize);
-    say(b" is ");
-    say_number(value as usize);
+    print::text(b" byte ");
+    print::number(at as usize);
+    print::text(b" is ");
+    print::number(value as usize);
     let whole = chosen(file, day, clearing);
     let room = altered(whole, at as usize, value);
     say_changed(file, first(&room, whole.len()), day, clearing);
@@ -138,20 +131,20 @@ fn say_edits<'a>(edits: &[u8], day: &'a [u8], clearing: &'a [u8]) {
 // ---- the look-up
 
 fn say_part(part: &[u8]) {
-    say(b" part of ");
-    say_number(part.len());
+    print::text(b" part of ");
+    print::number(part.len());
     if 0 < part.len() {
-        say(b" ");
+        print::text(b" ");
     }
     print::bytes(part);
-    say(b"\n");
+    print::text(b"\n");
 }
 
 fn say_look_up(name: &[u8], day: &[u8], section: usize) {
-    say(name);
-    say(b" section ");
-    say_number(section);
-    say(b" refused");
+    print::text(name);
+    print::text(b" section ");
+    print::number(section);
+    print::text(b" refused");
     say_fault(lookup::look_up_fault(day, section));
     say_part(lookup::look_up(day, section));
 }

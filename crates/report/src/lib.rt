@@ -1,5 +1,4 @@
 // An outcome on standard output: the verdict's number and place; where it is accepted the six totals and the net positions too.
-use libc::STDOUT_FILENO;
 use market::Totals;
 use stages::Place;
 use verdict::Outcome;
@@ -8,19 +7,15 @@ ghost use Prim.Native.Nat.{_<_};
 ghost use Rattle.verdict.specs.Verdict.{numberOf};
 ghost use Rattle.verdict.specs.Verdict as meaning;
 
-fn say_number(n: usize) {
-    io::print_decimal(STDOUT_FILENO, n as u64);
-}
-
 // ---- the verdict and the totals
 
 fn say_verdict(number: u8, place: Place) {
     print::text(b"verdict ");
-    say_number(number as usize);
+    print::number(number as usize);
     print::text(b" ");
-    say_number(place.first);
+    print::number(place.first);
     print::text(b" ");
-    say_number(place.second);
+    print::number(place.second);
     print::text(b"\n");
 }
 
@@ -65,9 +60,9 @@ fn say_net(codes: &[u8], room: &[u8], periods: usize, k: usize)
     requires { ⌜ (0 < periods) × (k < 65536) ⌝ }
 {
     print::text(b"net ");
-    say_number(u16_or_zero(codes, 2 * (k / periods)));
+    print::number(u16_or_zero(codes, 2 * (k / periods)));
     print::text(b" ");
-    say_number(k % periods);
+    print::number(k % periods);
     print::text(b" ");
     print::signed(i32_or_zero(room, 52 + 4 * k));
     print::text(b"\n");

@@ -20,8 +20,8 @@ mul-u16-or-zero c = let s = c .before .before .before .before in record { fits =
 u16-or-zero-requires : tie.Need-u16-or-zero-requires
 u16-or-zero-requires c κs = search needs
 
-say-number-requires : tie.Need-say-number-requires
-say-number-requires c κs = search needs
+number-requires : tie.Need-number-requires
+number-requires c κs = search needs
 
 slice-aggregate-text-2 : tie.Need-slice-aggregate-text-2
 slice-aggregate-text-2 c = search needs
@@ -29,11 +29,11 @@ slice-aggregate-text-2 c = search needs
 text-requires-2 : tie.Need-text-requires-2
 text-requires-2 c κs = search needs
 
-rem-say-number : tie.Need-rem-say-number
-rem-say-number c = search needs
+rem-number : tie.Need-rem-number
+rem-number c = search needs
 
-say-number-requires-2 : tie.Need-say-number-requires-2
-say-number-requires-2 c κs = search needs
+number-requires-2 : tie.Need-number-requires-2
+number-requires-2 c κs = search needs
 
 slice-aggregate-text-3 : tie.Need-slice-aggregate-text-3
 slice-aggregate-text-3 c = search needs
@@ -71,11 +71,11 @@ say-net-spec =
     div-u16-or-zero
     mul-u16-or-zero
     u16-or-zero-requires
-    say-number-requires
+    number-requires
     slice-aggregate-text-2
     text-requires-2
-    rem-say-number
-    say-number-requires-2
+    rem-number
+    number-requires-2
     slice-aggregate-text-3
     text-requires-3
     mul-i32-or-zero
