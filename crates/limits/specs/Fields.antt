@@ -1,13 +1,20 @@
--- A row's rule is a list of tests, one for each of its fields, in row order. Assumes nothing.
-use Prim.Native.Nat.{ℕ, zero, suc}
-use mathlib.Core.Path.{_≡_, refl, sym, _∙_}
+-- A row's rule is a test for each of its fields, in row order. Assumes nothing.
+use Prim.Native.Nat.{ℕ, zero, suc, _+_, _<_, _≤_}
+use native.Mathlib.Nat.{zero-add, suc-add, le-of-suc-le-suc, not-suc-le-zero}
+use native.Mathlib.Omega.{arith}
+use mathlib.Core.Path.{_≡_, refl}
 use mathlib.Core.Bool.{Bool, true, false, _&&_}
-use mathlib.Core.List.{List, [], _∷_, _++_}
-use Rattle.stages.specs.First.{every}
+use mathlib.Core.List.{List, [], _∷_}
+use lib.Dec.{eqb}
+use lib.ListN.{length, getD}
+use borrow.Author.Tests.{eq-eqb, ne-eqb}
+use Rattle.stages.specs.First.{every, orElse, badAt, firstBad, before, firstOr, foundNothing, apart, every-first, none-is, some-is, same-first}
+use Rattle.stages.specs.declared.Found.{Found}
+use Rattle.stages.specs.declared.Found.the-variants.{At, Nothing}
 
 -- ---- what is meant
 
--- all tests hold
+-- all tests of a list hold
 abbrev pub allFrom : Bool → List Bool → Bool
 allFrom b [] = b
 allFrom b (c ∷ cs) = allFrom (b && c) cs
@@ -15,33 +22,139 @@ allFrom b (c ∷ cs) = allFrom (b && c) cs
 abbrev pub all : List Bool → Bool
 all = allFrom true
 
--- the tests of n fields of one kind
-abbrev pub fields : ℕ → (ℕ → Bool) → List Bool
-fields zero t = []
-fields (suc n) t = fields n t ++ (t n ∷ [])
+-- the test of the field f, from 0 on: the tests of the first fields, and then those of the fields behind them
+abbrev pub behind : List Bool → (ℕ → Bool) → ℕ → Bool
+behind [] t f = t f
+behind (b ∷ bs) t zero = b
+behind (b ∷ bs) t (suc f) = behind bs t f
 
--- ---- the tests of some fields joined with those of others
+-- of a row that has no fields behind them
+abbrev pub only : List Bool → ℕ → Bool
+only bs = behind bs (λ f. true)
 
-&&-assoc : (a b c : Bool) → ((a && b) && c) ≡ (a && (b && c))
-&&-assoc true b c = refl
-&&-assoc false b c = refl
+-- the same tests, and of the last field e is asked too
+abbrev pub asked : Bool → Bool → Bool
+asked true e = e
+asked false e = true
+
+abbrev pub withLast : ℕ → Bool → (ℕ → Bool) → ℕ → Bool
+withLast last e t f = t f && asked (eqb f last) e
+
+-- ---- the tests of a list, one by one
+
+pub only-at : (bs : List Bool) {f : ℕ} → f < length bs → only bs f ≡ getD bs f false
+only-at [] l = absurd (not-suc-le-zero l)
+only-at (b ∷ bs) {f = zero} l = refl
+only-at (b ∷ bs) {f = suc f} l = only-at bs (le-of-suc-le-suc l)
+
+-- ---- the first field that fails, of some fields and of those behind them
+
+-- one field on
+abbrev next : Found → Found
+next (At j) = At (suc j)
+next Nothing = Nothing
+
+abbrev countedOn : ℕ → Found → Found
+countedOn zero f = f
+countedOn (suc k) f = next (countedOn k f)
+
+first-front : (n : ℕ) (t : ℕ → Bool) → firstBad (suc n) t ≡ orElse (badAt (t 0) 0) (next (firstBad n (λ f. t (suc f))))
+first-front zero t = by (t 0)
+  where
+    by : (b : Bool) → badAt b 0 ≡ orElse (badAt b 0) Nothing
+    by true = refl
+    by false = refl
+first-front (suc n) t = rw (first-front n t) (by (t 0) (firstBad n (λ f. t (suc f))) (t (suc n)))
+  where
+    by : (b : Bool) (f : Found) (c : Bool) →
+        orElse (orElse (badAt b 0) (next f)) (badAt c (suc n)) ≡ orElse (badAt b 0) (next (orElse f (badAt c n)))
+    by true (At k) c = refl
+    by true Nothing true = refl
+    by true Nothing false = refl
+    by false f c = refl
+
+first-behind : (bs : List Bool) (n : ℕ) (t : ℕ → Bool) →
+    firstBad (length bs + n) (behind bs t) ≡ orElse (firstBad (length bs) (only bs)) (countedOn (length bs) (firstBad n t))
+first-behind [] n t = rw (zero-add n)
+first-behind (b ∷ bs) n t =
+    rw (suc-add (length bs) n, first-front (length bs + n) (behind (b ∷ bs) t), first-behind bs n t, first-front (length bs) (only (b ∷ bs)))
+    (by b (firstBad (length bs) (only bs)) (countedOn (length bs) (firstBad n t)))
+  where
+    by : (b : Bool) (f g : Found) → orElse (badAt b 0) (next (orElse f g)) ≡ orElse (orElse (badAt b 0) (next f)) (next g)
+    by true (At k) g = refl
+    by true Nothing g = refl
+    by false f g = refl
+
+counted : (k j : ℕ) → countedOn k (At j) ≡ At (k + j)
+counted zero j = rw (zero-add j)
+counted (suc k) j = rw (counted k j, suc-add k j)
+
+counted-none : (k : ℕ) → countedOn k Nothing ≡ Nothing
+counted-none zero = refl
+counted-none (suc k) = rw (counted-none k)
+
+module _ (bs : List Bool) (n : ℕ) (t : ℕ → Bool) where
+  -- it is one of the first fields
+  pub first-in-front : firstOr (length bs) (only bs) < length bs → firstOr (length bs) (only bs) ≡ firstOr (length bs + n) (behind bs t)
+  first-in-front l = rw (first-behind bs n t, ← some-is (length bs) (only bs) l)
+
+  -- or one of those behind them, which count on
+  pub first-counts-on : length bs ≤ firstOr (length bs) (only bs) → length bs + firstOr n t ≡ firstOr (length bs + n) (behind bs t)
+  first-counts-on l = rw (first-behind bs n t, none-is (length bs) (only bs) l) (by (firstBad n t))
+    where
+      by : (f : Found) → length bs + before n f ≡ before (length bs + n) (countedOn (length bs) f)
+      by (At j) = rw (counted (length bs) j)
+      by Nothing = rw (counted-none (length bs))
+
+  pub every-behind : every (length bs + n) (behind bs t) ≡ (every (length bs) (only bs) && every n t)
+  every-behind =
+      rw (every-first (length bs + n) (behind bs t), first-behind bs n t, every-first (length bs) (only bs), every-first n t)
+      (by (firstBad (length bs) (only bs)) (firstBad n t))
+    where
+      by : (f g : Found) → foundNothing (orElse f (countedOn (length bs) g)) ≡ (foundNothing f && foundNothing g)
+      by (At k) g = refl
+      by Nothing (At j) = rw (counted (length bs) j)
+      by Nothing Nothing = rw (counted-none (length bs))
+
+-- ---- with what the last of m fields is asked
 
 &&-true : (a : Bool) → (a && true) ≡ a
 &&-true true = refl
 &&-true false = refl
 
-from-++ : (b : Bool) (xs ys : List Bool) → allFrom b (xs ++ ys) ≡ allFrom (allFrom b xs) ys
-from-++ b [] ys = refl
-from-++ b (x ∷ xs) ys = from-++ (b && x) xs ys
+module _ (last : ℕ) (e : Bool) (t : ℕ → Bool) where
+  first-last : firstBad (suc last) (withLast last e t) ≡ orElse (firstBad (suc last) t) (badAt e last)
+  first-last =
+      rw (same-first last (withLast last e t) t below, eq-eqb last last refl) (by (firstBad last t) (t last) e)
+    where
+      below : (j : ℕ) → j < last → withLast last e t j ≡ t j
+      below j l = rw (ne-eqb j last (λ q. omega (arith, l, q))) (&&-true (t j))
 
-from-fields : (b : Bool) (n : ℕ) (t : ℕ → Bool) → allFrom b (fields n t) ≡ (b && every n t)
-from-fields b zero t = sym (&&-true b)
-from-fields b (suc n) t = from-++ b (fields n t) (t n ∷ []) ∙ rw (from-fields b n t, &&-assoc)
+      by : (f : Found) (b e : Bool) → orElse f (badAt (b && e) last) ≡ orElse (orElse f (badAt b last)) (badAt e last)
+      by (At k) b e = refl
+      by Nothing true e = refl
+      by Nothing false e = refl
 
--- some fields, and then n fields of one kind
-pub all-fields : (xs : List Bool) (n : ℕ) (t : ℕ → Bool) → all (xs ++ fields n t) ≡ (all xs && every n t)
-all-fields xs n t = from-++ true xs (fields n t) ∙ from-fields (all xs) n t
+  module _ {m : ℕ} (q : m ≡ suc last) where
+    pub first-with-last : firstBad m (withLast last e t) ≡ orElse (firstBad m t) (badAt e last)
+    first-with-last = rw q first-last
 
--- some fields, and then one more
-pub all-one : (xs : List Bool) (b : Bool) → all (xs ++ (b ∷ [])) ≡ (all xs && b)
-all-one xs b = from-++ true xs (b ∷ [])
+    pub every-with-last : every m (withLast last e t) ≡ (every m t && e)
+    every-with-last = rw (every-first m (withLast last e t), first-with-last, every-first m t) (by (firstBad m t) e)
+      where
+        by : (f : Found) (e : Bool) → foundNothing (orElse f (badAt e last)) ≡ (foundNothing f && e)
+        by (At k) e = refl
+        by Nothing true = refl
+        by Nothing false = refl
+
+    -- a field that fails by itself comes first
+    pub fails-by-itself : firstOr m t < m → At (firstOr m t) ≡ firstBad m (withLast last e t)
+    fails-by-itself l = rw (first-with-last, ← some-is m t l)
+
+    -- else it is the last
+    pub fails-at-last : every m (withLast last e t) ≡ false → m ≤ firstOr m t → At last ≡ firstBad m (withLast last e t)
+    fails-at-last bad l = rw (first-with-last, none-is m t l) (by e (rw (every-first m (withLast last e t), first-with-last, none-is m t l) at bad))
+      where
+        by : (e : Bool) → foundNothing (badAt e last) ≡ false → At last ≡ badAt e last
+        by true z = apart refl z
+        by false z = refl

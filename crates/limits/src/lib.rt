@@ -2,7 +2,9 @@
 ghost use mathlib.Core.Path.{_≡_};
 ghost use mathlib.Core.Bool.{_&&_};
 ghost use lib.Signed.{leZ};
-ghost use Rattle.limits.specs.Fields.{all};
+ghost use lib.ListN.{length};
+ghost use Rattle.stages.specs.First.{firstOr};
+ghost use Rattle.limits.specs.Fields.{all, only};
 ghost use Rattle.limits.specs.Rules.{periodRule, zoneRule, endsRule, stepRule, blockRule};
 
 pub const PRICE_LEAST: i64 = -1000000;
@@ -74,4 +76,69 @@ pub fn block_rule(zones: usize, zone: usize, side: usize, spare: usize, price: i
     ensures { λ r. ⌜ r ≡ all (blockRule zones zone side spare price) ⌝ }
 {
     (zone < zones) & (side <= 1) & (spare == 0) & ((PRICE_LEAST <= price) & (price <= PRICE_MOST))
+}
+
+// ---- the number of the first field that fails its test, and of fields where none does
+
+fn first_failing(tests: &[bool]) -> usize
+    ensures { λ r. ⌜ r ≡ firstOr (length (now (tests .entry))) (only (now (tests .entry))) ⌝ }
+{
+    for f in 0..tests.len() {
+        if !tests[f] {
+            return f;
+        }
+    }
+    tests.len()
+}
+
+pub fn period_field(floor: i64, ceiling: i64) -> usize
+    ensures { λ r. ⌜ r ≡ firstOr 2 (only (periodRule floor ceiling)) ⌝ }
+{
+    let tests = [
+        (PRICE_LEAST <= floor) & (floor <= PRICE_MOST),
+        ((PRICE_LEAST <= ceiling) & (ceiling <= PRICE_MOST)) & (floor <= ceiling),
+    ];
+    first_failing(&tests)
+}
+
+pub fn ends_field(zones: usize, from: usize, to: usize) -> usize
+    ensures { λ r. ⌜ r ≡ firstOr 2 (only (endsRule zones from to)) ⌝ }
+{
+    let tests = [from < zones, (to < zones) & (to != from)];
+    first_failing(&tests)
+}
+
+pub fn step_field(
+    zones: usize,
+    periods: usize,
+    zone: usize,
+    period: usize,
+    side: usize,
+    spare: usize,
+    price: i64,
+    quantity: u32,
+) -> usize
+    ensures { λ r. ⌜ r ≡ firstOr 6 (only (stepRule zones periods zone period side spare price quantity)) ⌝ }
+{
+    let tests = [
+        zone < zones,
+        period < periods,
+        side <= 1,
+        spare == 0,
+        (PRICE_LEAST <= price) & (price <= PRICE_MOST),
+        (1 <= quantity) & (quantity <= VOLUME_MOST),
+    ];
+    first_failing(&tests)
+}
+
+pub fn block_field(zones: usize, zone: usize, side: usize, spare: usize, price: i64) -> usize
+    ensures { λ r. ⌜ r ≡ firstOr 4 (only (blockRule zones zone side spare price)) ⌝ }
+{
+    let tests = [
+        zone < zones,
+        side <= 1,
+        spare == 0,
+        (PRICE_LEAST <= price) & (price <= PRICE_MOST),
+    ];
+    first_failing(&tests)
 }

@@ -15,7 +15,7 @@ use Rattle.stages.specs.declared.Found.{Found}
 use Rattle.stages.specs.declared.Found.the-variants.{At, Nothing}
 use Rattle.limits.specs.Limits.{mostPrice, mostFlow, mostVolume, isPrice, isFlow}
 use Rattle.rows.specs.Laws.{line-split, block-split}
-use Rattle.rows.specs.Rows.{rowStart, rowOk, floor, ceiling, code, codeBefore, from, to, forward, back}
+use Rattle.rows.specs.Rows.{rowStart, fieldOk, rowOk, floor, ceiling, code, codeBefore, from, to, forward, back}
 use Rattle.rows.specs.Rows.{stepZone, stepPeriod, stepSide, stepSpare, stepPrice, stepQuantity}
 use Rattle.rows.specs.Rows.{blockZone, blockSide, blockSpare, blockPrice, blockQuantity}
 use Rattle.rows.specs.declared.Kind.the-variants.{Periods, Zones, Lines, Steps, Blocks, Prices, Flows, Volumes, Taken}
@@ -105,37 +105,37 @@ forward-and-back P at n = (
 
 module _ (periods zones : ℕ) (part : List ℕ) (i : ℕ) where
   pub period-row : (rowOk Periods periods zones part i ≡ true) ↔ PeriodRow part (rowStart Periods periods i)
-  unfolding rowOk
+  unfolding fieldOk
   period-row = simp tests (λ h. search, λ h. search)
 
   pub zone-row : (rowOk Zones periods zones part i ≡ true) ↔ ZoneRow part i (rowStart Zones periods i)
-  unfolding rowOk
+  unfolding fieldOk
   zone-row = simp tests (λ h. search, λ h. search)
 
   pub line-row : (rowOk Lines periods zones part i ≡ true) ↔ LineRow periods zones part (rowStart Lines periods i)
-  unfolding rowOk
+  unfolding fieldOk
   line-row = simp (line-split, tests, forward-and-back (λ place. u32At part place ≤ mostVolume)) (λ h. search, λ h. search)
 
   pub step-row : (rowOk Steps periods zones part i ≡ true) ↔ StepRow periods zones part (rowStart Steps periods i)
-  unfolding rowOk
+  unfolding fieldOk
   step-row = simp tests (λ h. search, λ h. search)
 
   pub block-row : (rowOk Blocks periods zones part i ≡ true) ↔ BlockRow periods zones part (rowStart Blocks periods i)
-  unfolding rowOk
+  unfolding fieldOk
   block-row = simp (block-split, tests) (λ h. search, λ h. (search, (h .some-period, (h .some-below, h .some-above))))
 
   pub price-row : (rowOk Prices periods zones part i ≡ true) ↔ IsPrice (i32At part (rowStart Prices periods i))
-  unfolding rowOk
+  unfolding fieldOk
   price-row = price-is _
 
   pub flow-row : (rowOk Flows periods zones part i ≡ true) ↔ IsFlow (i32At part (rowStart Flows periods i))
-  unfolding rowOk
+  unfolding fieldOk
   flow-row = flow-is _
 
   pub volume-row : (rowOk Volumes periods zones part i ≡ true) ↔ (u32At part (rowStart Volumes periods i) ≤ mostVolume)
-  unfolding rowOk
+  unfolding fieldOk
   volume-row = leb-is _ _
 
   pub taken-row : (rowOk Taken periods zones part i ≡ true) ↔ (u8At part (rowStart Taken periods i) ≤ 1)
-  unfolding rowOk
+  unfolding fieldOk
   taken-row = leb-is _ _

@@ -8,30 +8,30 @@ use mathlib.Core.List.{List}
 use lib.Dec.{leb}
 use lib.ListN.{length, length-drop}
 use borrow.Author.Tests.{leb-true, le-leb}
-use Rattle.stages.specs.First.{both}
+use Rattle.stages.specs.First.{every, every-is, both}
 use Rattle.stages.specs.Stage.{Means}
 use Rattle.stages.specs.declared.Fault.the-variants.{Clean}
 use Rattle.sections.specs.Section.{Numbers, count, section, after, ended}
 
--- its count is there and within its limits, the file has room for all rows, and each row obeys its rule
-pub record GoodSection (least most size : ℕ) (ok : ℕ → Bool) (part : List ℕ) : Type 0 where
+-- its count is there and within its limits, the file has room for all rows, and each row obeys its rule: each of its fields passes its test
+pub record GoodSection (least most size fields : ℕ) (ok : ℕ → ℕ → Bool) (part : List ℕ) : Type 0 where
   pub counted : 2 ≤ length part
   pub at-least : least ≤ count part
   pub at-most : count part ≤ most
   pub room : 2 + size * count part ≤ length part
-  pub rows : (i : ℕ) → i < count part → ok i ≡ true
+  pub rows : (i : ℕ) → i < count part → every fields (ok i) ≡ true
 
 -- that is what the section's stages say where they are clean
-pub section-clean : (numbers : Numbers) (number least most size : ℕ) (ok : ℕ → Bool) (part : List ℕ) →
-    Means (section numbers number least most size ok part) Clean ↔ GoodSection least most size ok part
-section-clean numbers number least most size ok part = (
+pub section-clean : (numbers : Numbers) (number least most size fields : ℕ) (ok : ℕ → ℕ → Bool) (part : List ℕ) →
+    Means (section numbers number least most size fields ok part) Clean ↔ GoodSection least most size fields ok part
+section-clean numbers number least most size fields ok part = (
   λ m. let limits = both (leb least (count part)) (leb (count part) most) .0 (m .1 .0 0 0 (omega arith) (omega arith)) in
       record {
         counted = leb-true 2 (length part) (m .0 0 0 (omega arith) (omega arith));
         at-least = leb-true least (count part) (limits .0);
         at-most = leb-true (count part) most (limits .1);
         room = leb-true (2 + size * count part) (length part) (m .1 .1 .0 0 0 (omega arith) (omega arith));
-        rows = λ i l. m .1 .1 .1 .0 0 i (omega arith) l;
+        rows = λ i l. every-is fields (ok i) .1 (λ f k. m .1 .1 .1 .0 i f l k);
       },
   λ g. (
     λ z i _ _. le-leb 2 (length part) (g .counted),
@@ -40,7 +40,7 @@ section-clean numbers number least most size ok part = (
       (
         λ z i _ _. le-leb (2 + size * count part) (length part) (g .room),
         (
-          λ z i _ l. g .rows i l,
+          λ i f l k. every-is fields (ok i) .0 (g .rows i l) f k,
           tt,
         ),
       ),

@@ -5,7 +5,7 @@ use mathlib.Core.List.{List, [], _∷_}
 use lib.Dec.{leb}
 use lib.ListN.{length, take, drop}
 use Rattle.wire.specs.Bytes.{u16At}
-use Rattle.stages.specs.Stage.{Stage, once, line, place}
+use Rattle.stages.specs.Stage.{Stage, once, place, fieldPlace}
 
 -- the numbers of the three kinds of fault in a file's sections
 pub record Numbers : Type 0 where
@@ -22,14 +22,18 @@ between least most n = leb least n && leb n most
 abbrev pub count : List ℕ → ℕ
 count part = u16At part 0
 
--- Per section: the count, its limit, room for all rows, then the rows in order. `part` is the file from the section's count on, and `ok i`
--- says whether the row i obeys its rule.
-abbrev pub section : Numbers → ℕ → ℕ → ℕ → ℕ → (ℕ → Bool) → List ℕ → List Stage
-section numbers number least most size ok part =
+-- a test of each field of each row: the fault is the first row that has a field that fails, and in it the first such field
+abbrev pub table : ℕ → ℕ → ℕ → ℕ → (ℕ → ℕ → Bool) → Stage
+table k number n fields ok = record { number = k; rows = n; cols = fields; test = ok; named = fieldPlace number }
+
+-- Per section: the count, its limit, room for all rows, then the rows in order. `part` is the file from the section's count on, `fields`
+-- says how many fields a row has, and `ok i f` whether the field f of the row i passes its test.
+abbrev pub section : Numbers → ℕ → ℕ → ℕ → ℕ → ℕ → (ℕ → ℕ → Bool) → List ℕ → List Stage
+section numbers number least most size fields ok part =
     once (numbers .cut) (place number 0) (leb 2 (length part))
     ∷ once (numbers .beyond) (place number 0) (between least most (count part))
     ∷ once (numbers .cut) (place number 0) (leb (2 + size * count part) (length part))
-    ∷ line (numbers .bad) (count part) ok (λ i. place number i)
+    ∷ table (numbers .bad) number (count part) fields ok
     ∷ []
 
 -- Each section starts where the one before it ended.

@@ -15,8 +15,8 @@ pub enum Section {
     CutOff,
     // Its count is beyond its limits.
     Beyond,
-    // The first row that breaks its rule.
-    BadRow(usize),
+    // The first row that breaks its rule, and in it the first field that does.
+    BadRow(usize, usize),
 }
 
 // The same, with the number and the place of the fault, as the section's file gives them.
@@ -36,6 +36,7 @@ pub fn named(answer: Section, number: usize, cut: u8, beyond: u8, bad: u8) -> Re
             Place {
                 first: number,
                 second: 0,
+                third: 0,
             },
         ),
         Section::Beyond => Reading::Refused(
@@ -43,13 +44,15 @@ pub fn named(answer: Section, number: usize, cut: u8, beyond: u8, bad: u8) -> Re
             Place {
                 first: number,
                 second: 0,
+                third: 0,
             },
         ),
-        Section::BadRow(i) => Reading::Refused(
+        Section::BadRow(i, f) => Reading::Refused(
             bad,
             Place {
                 first: number,
                 second: i,
+                third: f,
             },
         ),
     }

@@ -28,16 +28,16 @@ pub record Stage : Type 0 where
   pub test : ℕ → ℕ → Bool
   pub named : ℕ → ℕ → Place
 
+-- a place of two numbers, and one that names a field too
 abbrev pub place : ℕ → ℕ → Place
-place p q = record { first = p; second = q }
+place p q = record { first = p; second = q; third = 0 }
+
+abbrev pub fieldPlace : ℕ → ℕ → ℕ → Place
+fieldPlace p q f = record { first = p; second = q; third = f }
 
 -- a test at one place
 abbrev pub once : ℕ → Place → Bool → Stage
 once k p b = record { number = k; rows = 1; cols = 1; test = λ z i. b; named = λ z i. p }
-
--- a test at each of n rows
-abbrev pub line : ℕ → ℕ → (ℕ → Bool) → (ℕ → Place) → Stage
-line k n t p = record { number = k; rows = 1; cols = n; test = λ z. t; named = λ z. p }
 
 -- the first cell at which a stage's test fails
 abbrev pub spot : Stage → Spot

@@ -12,10 +12,11 @@ pub enum Spot {
     Nowhere,
 }
 
-// A place, as a refusal names it.
+// A place, as a refusal names it. The third number is the field's, where a row breaks its rule, and else 0.
 pub struct Place {
     pub first: usize,
     pub second: usize,
+    pub third: usize,
 }
 
 // The number and the place of the first fault, or none.

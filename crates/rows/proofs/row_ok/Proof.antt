@@ -5,36 +5,27 @@ use native.Mathlib.Omega.{arith}
 use lib.ListN.{length}
 use denote.Ref.{now}
 use borrow.Author.Needs.{needs}
-use Rattle.limits.specs.Fields.{all}
-use Rattle.rows.specs.Rows.{rowSize, rowFields, rowOk}
+use Rattle.stages.specs.First.{every}
+use Rattle.rows.specs.Rows.{rowSize, fieldCount, rowFields, rowOk}
 use Rattle.rows.specs.Laws.{row-is, row-room}
 use Rattle.rows.specs.declared.Kind.{Kind}
 use Rattle.rows.proofs.row_ok.Statement.{statement}
 use Rattle.rows.proofs.row_ok.Tie as tie
 
-row-size-requires : tie.Need-row-size-requires
-row-size-requires c κs = search needs
+row-start-requires : tie.Need-row-start-requires
+row-start-requires c κs = search needs
 
 -- in the arm of a kind: the row lies within the part, and the kind's rule is the row's
-module _ (c : tie.After-row-size) {k : Kind} (e : c .before .before .args .kind ≡ k) where
+module _ (c : tie.After-row-start) {k : Kind} (e : c .before .before .args .kind ≡ k) where
   abbrev start : tie.Start
   start = c .before .before
 
-  in-room : 2 + c .row-size .result * start .args .i + rowSize k (start .args .periods) ≤ length (now (start .args .part))
-  in-room = row-room (start .args .periods) (start .args .i) (now (start .args .part)) e (c .row-size .ensures .0) (start .pre .1)
+  in-room : c .row-start .result + rowSize k (start .args .periods) ≤ length (now (start .args .part))
+  in-room = row-room (start .args .periods) (start .args .i) (now (start .args .part)) e (c .row-start .ensures) (start .pre .1)
 
-  by-kind : all (rowFields k (start .args .periods) (start .args .zones) (now (start .args .part)) (start .args .i) (2 + c .row-size .result * start .args .i))
+  by-kind : every (fieldCount k (start .args .periods)) (rowFields k (start .args .periods) (start .args .zones) (now (start .args .part)) (start .args .i) (c .row-start .result))
       ≡ rowOk (start .args .kind) (start .args .periods) (start .args .zones) (now (start .args .part)) (start .args .i)
-  by-kind = row-is (start .args .periods) (start .args .zones) (now (start .args .part)) (start .args .i) e (c .row-size .ensures .0)
-
-room : (c : tie.After-row-size) → 2 + c .row-size .result * (c .before .before .args .i + 1) ≤ length (now (c .before .before .args .part))
-room c = rw (← c .row-size .ensures .0) at (c .before .before .pre .1)
-
-mul-at : tie.Need-mul-at
-mul-at c = omega (arith, room c)
-
-add-at : tie.Need-add-at
-add-at c = omega (arith, room c)
+  by-kind = row-is every (start .args .periods) (start .args .zones) (now (start .args .part)) (start .args .i) e (c .row-start .ensures)
 
 enum-told : tie.Need-enum-told
 enum-told c = search needs
@@ -121,9 +112,7 @@ pub row-ok-spec : {M : Type 1} → statement M
 row-ok-spec =
     tie.close
     (tie.spec
-    row-size-requires
-    mul-at
-    add-at
+    row-start-requires
     enum-told
     period-ok-requires
     enum-told-2
