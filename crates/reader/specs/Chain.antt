@@ -10,7 +10,7 @@ use Rattle.sections.specs.Section.{Numbers, count, after}
 use Rattle.sections.specs.Answer.{Read, reading-rows, section-read, then-refused, then-good}
 use Rattle.sections.specs.Good.{section-clean}
 use Rattle.sections.specs.declared.Reading.the-variants.{Good, Refused}
-use Rattle.rows.specs.Rows.{rowSize, rowOk}
+use Rattle.rows.specs.Rows.{rowSize, fieldCount, fieldOk}
 use Rattle.rows.specs.declared.Kind.{Kind}
 use Rattle.reader.specs.Reader.{fileSection, GoodRows, rowsAt, readingAt}
 
@@ -18,7 +18,7 @@ module _ (numbers : Numbers) (number : ℕ) (kind : Kind) (least most periods zo
   -- a section that reads without fault has its count of rows, and they lie within the part
   pub reading-read : {n : ℕ} → readingAt numbers number kind least most periods zones part ≡ Good n → Read least most (rowSize kind periods) part n
   reading-read {n} e =
-      section-read least most (rowSize kind periods) (rowOk kind periods zones part) part n
+      section-read least most (rowSize kind periods) (fieldCount kind periods) (fieldOk kind periods zones part) part n
       (reading-rows numbers number (rowsAt kind least most periods zones part) n e)
 
   -- all stages are clean, from this section on
@@ -26,7 +26,7 @@ module _ (numbers : Numbers) (number : ℕ) (kind : Kind) (least most periods zo
       Means (fileSection numbers number kind least most periods zones part ++ rest) Clean ↔ (GoodRows kind least most periods zones part × Means rest Clean)
   then-clean rest =
       let c = clean-++ (fileSection numbers number kind least most periods zones part) rest in
-      let g = section-clean numbers number least most (rowSize kind periods) (rowOk kind periods zones part) part in
+      let g = section-clean numbers number least most (rowSize kind periods) (fieldCount kind periods) (fieldOk kind periods zones part) part in
       (λ m. (g .0 (c .0 m .0), c .0 m .1), λ m. c .1 (g .1 (m .0), m .1))
 
   -- `good` and `rest` are what comes after the section: the answer where all is good, and the stages, by what is left of the file and the
@@ -40,7 +40,7 @@ module _ (numbers : Numbers) (number : ℕ) (kind : Kind) (least most periods zo
     -- a fault returns at once
     pub fault-returns : {k : ℕ} {p : Place} → readingAt numbers number kind least most periods zones part ≡ Refused k p → bad k p ≡ answered
     fault-returns {k} {p} e =
-        rw (then-refused numbers number least most (rowSize kind periods) (rowOk kind periods zones part) part
+        rw (then-refused numbers number least most (rowSize kind periods) (fieldCount kind periods) (fieldOk kind periods zones part) part
         (rest (after (rowSize kind periods) part) (count part)) k p e)
 
     -- what is left of the file is handed on
@@ -50,6 +50,6 @@ module _ (numbers : Numbers) (number : ℕ) (kind : Kind) (least most periods zo
         q ∙ rw (
           l,
           ← reading-read e .counted,
-          then-good numbers number least most (rowSize kind periods) (rowOk kind periods zones part) part
+          then-good numbers number least most (rowSize kind periods) (fieldCount kind periods) (fieldOk kind periods zones part) part
               (rest (after (rowSize kind periods) part) (count part)) n e,
         )

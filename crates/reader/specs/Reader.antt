@@ -7,21 +7,21 @@ use Rattle.sections.specs.Good.{GoodSection}
 use Rattle.sections.specs.Answer.{readingOf, sectionOf}
 use Rattle.sections.specs.declared.Section.{Section}
 use Rattle.sections.specs.declared.Reading.{Reading}
-use Rattle.rows.specs.Rows.{rowSize, rowOk}
+use Rattle.rows.specs.Rows.{rowSize, fieldCount, fieldOk}
 use Rattle.rows.specs.declared.Kind.{Kind}
 
 -- the section with this number, with so many rows, in a day of so many periods and zones
 abbrev pub fileSection : Numbers → ℕ → Kind → ℕ → ℕ → ℕ → ℕ → List ℕ → List Stage
 fileSection numbers number kind least most periods zones part =
-    section numbers number least most (rowSize kind periods) (rowOk kind periods zones part) part
+    section numbers number least most (rowSize kind periods) (fieldCount kind periods) (fieldOk kind periods zones part) part
 
 -- it reads without fault
 abbrev pub GoodRows : Kind → ℕ → ℕ → ℕ → ℕ → List ℕ → Type 0
-GoodRows kind least most periods zones part = GoodSection least most (rowSize kind periods) (rowOk kind periods zones part) part
+GoodRows kind least most periods zones part = GoodSection least most (rowSize kind periods) (fieldCount kind periods) (fieldOk kind periods zones part) part
 
 -- its reader's answer, and the same with the number and the place of a fault
 abbrev pub rowsAt : Kind → ℕ → ℕ → ℕ → ℕ → List ℕ → Section
-rowsAt kind least most periods zones part = sectionOf least most (rowSize kind periods) (rowOk kind periods zones part) part
+rowsAt kind least most periods zones part = sectionOf least most (rowSize kind periods) (fieldCount kind periods) (fieldOk kind periods zones part) part
 
 abbrev pub readingAt : Numbers → ℕ → Kind → ℕ → ℕ → ℕ → ℕ → List ℕ → Reading
 readingAt numbers number kind least most periods zones part = readingOf numbers number (rowsAt kind least most periods zones part)

@@ -1,28 +1,28 @@
 // One section of either file, by the kind of its rows.
 use rows::Kind;
 use sections::Section;
-use stages::Found;
+use stages::Spot;
 ghost use mathlib.Core.Path.{_≡_};
 ghost use Prim.Native.Nat.{_+_, _*_, _≤_};
 ghost use lib.ListN.{length};
 ghost use denote.Ref.{ptr};
-ghost use Rattle.stages.specs.First.{firstBad};
+ghost use Rattle.stages.specs.Table.{firstCell};
 ghost use Rattle.limits.specs.Limits.{mostPeriods};
 ghost use Rattle.sections.specs.Section.{count, after, onward};
-ghost use Rattle.rows.specs.Rows.{rowSize, rowOk};
+ghost use Rattle.rows.specs.Rows.{rowSize, fieldCount, fieldOk};
 ghost use Rattle.reader.specs.Reader.{rowsAt};
 
-// The first row of a section that breaks its rule.
-fn bad_row(kind: Kind, periods: usize, zones: usize, part: &[u8], n: usize) -> Found
+// The first row of a section that breaks its rule, and in it the first field that does. The fields are looked at one by one in that row alone.
+fn bad_field(kind: Kind, periods: usize, zones: usize, part: &[u8], n: usize) -> Spot
     requires { ⌜ (periods ≤ mostPeriods) × (2 + rowSize kind periods * n ≤ length (now part)) ⌝ }
-    ensures { λ r. ⌜ r ≡ firstBad n (rowOk kind periods zones (now (part .entry))) ⌝ }
+    ensures { λ r. ⌜ r ≡ firstCell n (fieldCount kind periods) (fieldOk kind periods zones (now (part .entry))) ⌝ }
 {
     for i in 0..n {
         if !rows::row_ok(kind, periods, zones, part, i) {
-            return Found::At(i);
+            return Spot::Cell(i, rows::row_field(kind, periods, zones, part, i));
         }
     }
-    Found::Nothing
+    Spot::Nowhere
 }
 
 // A section of least to most rows: the count, its limit, room for all rows, then the rows in order.
@@ -39,13 +39,13 @@ pub fn read_rows(
 {
     let size = rows::row_size(kind, periods);
     match sections::read_head(part, least, most, size) {
-        Section::Rows(n) => match bad_row(kind, periods, zones, part, n) {
-            Found::At(i) => Section::BadRow(i),
-            Found::Nothing => Section::Rows(n),
+        Section::Rows(n) => match bad_field(kind, periods, zones, part, n) {
+            Spot::Cell(i, f) => Section::BadRow(i, f),
+            Spot::Nowhere => Section::Rows(n),
         },
         Section::CutOff => Section::CutOff,
         Section::Beyond => Section::Beyond,
-        Section::BadRow(i) => Section::BadRow(i),
+        Section::BadRow(i, f) => Section::BadRow(i, f),
     }
 }
 

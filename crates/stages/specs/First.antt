@@ -139,12 +139,12 @@ every-first (suc n) t = rw (every-first n t) (by (firstBad n t) (t n))
     by Nothing true = refl
     by Nothing false = refl
 
--- the answers of a loop that looks whether every row passes
-pub stop-every : {t : ℕ → Bool} {i n : ℕ} → Passed t i → t i ≡ false → i < n → false ≡ every n t
-stop-every {t} {i} {n} p e l = rw (every-first n t, ← stop p e l)
-
-pub done-every : {t : ℕ → Bool} {i n : ℕ} → Passed t i → i ≤ n → n ≤ i → true ≡ every n t
-done-every {t} {i} {n} p l m = rw (every-first n t, ← done p l m)
+pub every-none : (n : ℕ) (t : ℕ → Bool) → every n t ≡ true → firstBad n t ≡ Nothing
+every-none n t e = by (firstBad n t) (rw (every-first n t) at e)
+  where
+    by : (f : Found) → foundNothing f ≡ true → f ≡ Nothing
+    by (At k) z = apart z refl
+    by Nothing z = refl
 
 -- ---- the same as a number
 

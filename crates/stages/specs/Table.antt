@@ -4,8 +4,8 @@ use native.Mathlib.Nat.{le-of-suc-le-suc, not-suc-le-zero, eq-or-lt-of-le, le-an
 use native.Mathlib.Numerals.{add-one}
 use mathlib.Core.Path.{_≡_, refl, sym}
 use mathlib.Core.Logic.{_⊎_, inl, inr}
-use mathlib.Core.Bool.{Bool, false}
-use Rattle.stages.specs.First.{firstBad, Passed, stop, done}
+use mathlib.Core.Bool.{Bool, true, false}
+use Rattle.stages.specs.First.{every, firstBad, Passed, stop, done, every-none}
 use Rattle.stages.specs.declared.Found.{Found}
 use Rattle.stages.specs.declared.Found.the-variants.{At, Nothing}
 use Rattle.stages.specs.declared.Spot.{Spot}
@@ -36,22 +36,32 @@ pub record RowsPassed (t : ℕ → ℕ → Bool) (cols z : ℕ) : Type 0 where
 pub no-row-yet : (t : ℕ → ℕ → Bool) (cols : ℕ) → RowsPassed t cols 0
 no-row-yet t cols = record { nowhere = refl }
 
-pub row-more : {t : ℕ → ℕ → Bool} {cols z i : ℕ} → RowsPassed t cols z → Passed (t z) i → i ≤ cols → cols ≤ i → RowsPassed t cols (z + 1)
-row-more p q l m = record { nowhere = rw (add-one, p .nowhere, ← done q l m) }
+-- the row z passes
+one-row-more : {t : ℕ → ℕ → Bool} {cols z : ℕ} → RowsPassed t cols z → firstBad cols (t z) ≡ Nothing → RowsPassed t cols (z + 1)
+one-row-more p e = record { nowhere = rw (add-one, p .nowhere, e) }
 
-stop-row : {t : ℕ → ℕ → Bool} {cols z i : ℕ} (rows : ℕ) → RowsPassed t cols z → Passed (t z) i → t z i ≡ false → i < cols → z < rows →
+pub row-passes : {t : ℕ → ℕ → Bool} {cols z : ℕ} → RowsPassed t cols z → every cols (t z) ≡ true → RowsPassed t cols (z + 1)
+row-passes {t} {cols} {z} p e = one-row-more p (every-none cols (t z) e)
+
+pub row-more : {t : ℕ → ℕ → Bool} {cols z i : ℕ} → RowsPassed t cols z → Passed (t z) i → i ≤ cols → cols ≤ i → RowsPassed t cols (z + 1)
+row-more p q l m = one-row-more p (sym (done q l m))
+
+-- it fails, first at the column i
+stop-row : {t : ℕ → ℕ → Bool} {cols z i : ℕ} (rows : ℕ) → RowsPassed t cols z → At i ≡ firstBad cols (t z) → z < rows →
     firstCell rows cols t ≡ Cell z i
-stop-row zero p q e l m = absurd (not-suc-le-zero m)
-stop-row {t} {cols} {z} {i} (suc rows) p q e l m =
-    last (eq-or-lt-of-le (le-of-suc-le-suc m)) (λ n. stop-row rows p q e l n)
+stop-row zero p e m = absurd (not-suc-le-zero m)
+stop-row {t} {cols} {z} {i} (suc rows) p e m = last (eq-or-lt-of-le (le-of-suc-le-suc m)) (λ n. stop-row rows p e n)
   where
     last : (z ≡ rows) ⊎ (z < rows) → (z < rows → firstCell rows cols t ≡ Cell z i) → firstCell (suc rows) cols t ≡ Cell z i
-    last (inl r) h = rw (← r, p .nowhere, ← stop q e l)
+    last (inl r) h = rw (← r, p .nowhere, ← e)
     last (inr n) h = rw (h n)
+
+pub row-fails : {t : ℕ → ℕ → Bool} {cols z i rows : ℕ} → RowsPassed t cols z → At i ≡ firstBad cols (t z) → z < rows → Cell z i ≡ firstCell rows cols t
+row-fails {rows = rows} p e m = sym (stop-row rows p e m)
 
 pub stop-cell : {t : ℕ → ℕ → Bool} {cols z i rows : ℕ} → RowsPassed t cols z → Passed (t z) i → t z i ≡ false → i < cols → z < rows →
     Cell z i ≡ firstCell rows cols t
-stop-cell {rows = rows} p q e l m = sym (stop-row rows p q e l m)
+stop-cell p q e l m = row-fails p (stop q e l) m
 
 pub done-table : {t : ℕ → ℕ → Bool} {cols z rows : ℕ} → RowsPassed t cols z → z ≤ rows → rows ≤ z → Nowhere ≡ firstCell rows cols t
 done-table p l m = rw (le-antisymm l m) at (sym (p .nowhere))
