@@ -41,6 +41,7 @@ fn from_end(part: &[u8], counts: Counts) -> Files
             Place {
                 first: 0,
                 second: 0,
+                third: 0,
             },
         );
     }

@@ -58,6 +58,7 @@ fn from_end(part: &[u8], counts: Counts) -> DayFile
             Place {
                 first: 0,
                 second: 0,
+                third: 0,
             },
         );
     }

@@ -12,11 +12,11 @@ use Rattle.lookup.specs.LookUp.{pick, lookUpStages, lookUp, lookUpAt}
 
 -- ---- what is put in a lent buffer
 
-abbrev pub pair : ℕ → ℕ → List ℕ
-pair a b = a ∷ b ∷ []
+abbrev pub three : ℕ → ℕ → ℕ → List ℕ
+three a b c = a ∷ b ∷ c ∷ []
 
-abbrev pub placePair : Place → List ℕ
-placePair p = pair (p .first) (p .second)
+abbrev pub placeThree : Place → List ℕ
+placeThree p = three (p .first) (p .second) (p .third)
 
 abbrev pub six : Totals → List ℤ
 six t = t .value ∷ t .buyers ∷ t .sellers ∷ t .rent ∷ t .traded ∷ t .shortfall ∷ []
@@ -36,13 +36,13 @@ longestStatement = 852
 
 module _ (day clearing room place : List ℕ) where
   abbrev pub checkNumber : ℕ
-  checkNumber = forLength 2 place (numberOf (verdict day clearing (length room))) wrongLength
+  checkNumber = forLength 3 place (numberOf (verdict day clearing (length room))) wrongLength
 
   abbrev pub checkPlace : List ℕ
-  checkPlace = forLength 2 place (placePair (placeOf (verdict day clearing (length room)))) place
+  checkPlace = forLength 3 place (placeThree (placeOf (verdict day clearing (length room)))) place
 
   abbrev pub checkRoom : List ℕ
-  checkRoom = forLength 2 place (leaves day clearing (verdict day clearing (length room)) room) room
+  checkRoom = forLength 3 place (leaves day clearing (verdict day clearing (length room)) room) room
 
 -- ---- the totals
 
@@ -57,10 +57,10 @@ module _ (day clearing : List ℕ) (totals : List ℤ) where
 
 module _ (day : List ℕ) (section : ℕ) (found : List ℕ) where
   abbrev pub lookUpNumber : ℕ
-  lookUpNumber = forLength 2 found (answer 0 (λ k p. k) (firstFault (lookUpStages section day))) wrongLength
+  lookUpNumber = forLength 3 found (answer 0 (λ k p. k) (firstFault (lookUpStages section day))) wrongLength
 
   abbrev pub lookUpFound : List ℕ
   lookUpFound =
-      forLength 2 found
-      (answer (pair (lookUpAt section day) (length (lookUp section day))) (λ k p. placePair p) (firstFault (lookUpStages section day)))
+      forLength 3 found
+      (answer (three (lookUpAt section day) (length (lookUp section day)) 0) (λ k p. placeThree p) (firstFault (lookUpStages section day)))
       found

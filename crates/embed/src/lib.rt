@@ -7,7 +7,7 @@ use verdict::Outcome;
 ghost use mathlib.Core.Path.{_≡_};
 ghost use lib.ListN.{length};
 ghost use Rattle.verdict.specs.Verdict.{numberOf, placeOf};
-ghost use Rattle.embed.specs.Surface.{pair, six, checkNumber, checkPlace, checkRoom, totalsNumber, totalsOut, lookUpNumber, lookUpFound};
+ghost use Rattle.embed.specs.Surface.{three, six, checkNumber, checkPlace, checkRoom, totalsNumber, totalsOut, lookUpNumber, lookUpFound};
 
 const WRONG_LENGTH: u8 = 255;
 
@@ -29,17 +29,19 @@ fn place_of(outcome: Outcome) -> Place
         Outcome::Accepted(_) => Place {
             first: 0,
             second: 0,
+            third: 0,
         },
         Outcome::Refused(_, place) => place,
     }
 }
 
-fn put_pair(out: &mut [usize], first: usize, second: usize)
-    requires { ⌜ length (now out) ≡ 2 ⌝ }
-    ensures { λ r. ⌜ now (out .exit) ≡ pair first second ⌝ }
+fn put_three(out: &mut [usize], first: usize, second: usize, third: usize)
+    requires { ⌜ length (now out) ≡ 3 ⌝ }
+    ensures { λ r. ⌜ now (out .exit) ≡ three first second third ⌝ }
 {
     out[0] = first;
     out[1] = second;
+    out[2] = third;
 }
 
 fn put_totals(out: &mut [i64], t: Totals)
@@ -74,12 +76,12 @@ pub extern "C" fn ayinzhad_check(
     ensures place { λ r. ⌜ now (place .exit) ≡ checkPlace (now (day .entry)) (now (clearing .entry)) (now (room .entry)) (now (place .entry)) ⌝ }
     ensures room { λ r. ⌜ now (room .exit) ≡ checkRoom (now (day .entry)) (now (clearing .entry)) (now (room .entry)) (now (place .entry)) ⌝ }
 {
-    if place.len() != 2 {
+    if place.len() != 3 {
         return WRONG_LENGTH;
     }
     let outcome = verdict::check(day, clearing, room);
     let at = place_of(outcome);
-    put_pair(place, at.first, at.second);
+    put_three(place, at.first, at.second, at.third);
     number_of(outcome)
 }
 
@@ -104,19 +106,20 @@ pub extern "C" fn ayinzhad_look_up(day: &[u8], section: usize, found: &mut [usiz
     ensures number { λ r. ⌜ r ≡ lookUpNumber (now (day .entry)) section (now (found .entry)) ⌝ }
     ensures found { λ r. ⌜ now (found .exit) ≡ lookUpFound (now (day .entry)) section (now (found .entry)) ⌝ }
 {
-    if found.len() != 2 {
+    if found.len() != 3 {
         return WRONG_LENGTH;
     }
     match lookup::look_up_fault(day, section) {
         Fault::Broken(number, place) => {
-            put_pair(found, place.first, place.second);
+            put_three(found, place.first, place.second, place.third);
             number
         }
         Fault::Clean => {
-            put_pair(
+            put_three(
                 found,
                 lookup::look_up_start(day, section),
                 lookup::look_up(day, section).len(),
+                0,
             );
             0
         }

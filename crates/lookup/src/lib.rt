@@ -79,6 +79,7 @@ fn read_for(day: &[u8], section: usize) -> DayFile
             Place {
                 first: 0,
                 second: 0,
+                third: 0,
             },
         );
     }

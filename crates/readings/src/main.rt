@@ -14,13 +14,15 @@ fn say_place(number: u8, place: Place) {
     print::number(place.first);
     print::text(b" ");
     print::number(place.second);
+    print::text(b" ");
+    print::number(place.third);
 }
 
 fn say_fault(fault: Fault) {
     match fault {
         Fault::Broken(k, p) => say_place(k, p),
         Fault::Clean => {
-            print::text(b" 0 0 0");
+            print::text(b" 0 0 0 0");
         }
     }
 }

@@ -16,6 +16,8 @@ fn say_verdict(number: u8, place: Place) {
     print::number(place.first);
     print::text(b" ");
     print::number(place.second);
+    print::text(b" ");
+    print::number(place.third);
     print::text(b"\n");
 }
 
@@ -93,6 +95,7 @@ pub fn outcome(outcome: Outcome, day: &[u8], room: &[u8]) -> u8
                 Place {
                     first: 0,
                     second: 0,
+                    third: 0,
                 },
             );
             say_totals(t);

@@ -192,6 +192,7 @@ fn fault_of(rule: Rule, day: &[u8], clearing: &[u8], counts: Counts) -> Fault
             Place {
                 first: row,
                 second: column,
+                third: 0,
             },
         ),
         Spot::Nowhere => Fault::Clean,

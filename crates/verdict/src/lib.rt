@@ -30,6 +30,7 @@ fn from_room(day: &[u8], clearing: &[u8], counts: Counts, room: &mut [u8]) -> Ou
             Place {
                 first: 0,
                 second: 0,
+                third: 0,
             },
         );
     }

@@ -1,6 +1,6 @@
 -- `embed::ayinzhad_check` meets its contract. Assumes nothing.
 use mathlib.Core.Path.{ap, _∙_}
-use Rattle.embed.specs.Surface.{placePair}
+use Rattle.embed.specs.Surface.{placeThree}
 use borrow.Author.Tests.{eq-eqb, ne-eqb}
 use borrow.Author.Needs.{needs}
 use Rattle.embed.proofs.ayinzhad_check.Statement.{statement}
@@ -17,8 +17,8 @@ check-requires c κs = search needs
 place-of-requires : tie.Need-place-of-requires
 place-of-requires c κs = search needs
 
-put-pair-requires : tie.Need-put-pair-requires
-put-pair-requires c κs = search needs
+put-three-requires : tie.Need-put-three-requires
+put-three-requires c κs = search needs
 
 number-of-requires : tie.Need-number-of-requires
 number-of-requires c κs = search needs
@@ -37,7 +37,7 @@ returns-2 c =
     let said = check .check .ensures .said in (
       rw (e, ← said) (c .number-of .ensures),
       (
-        rw (e, ← said) (put .put-pair .ensures ∙ ap placePair (put .before .before .place-of .ensures)),
+        rw (e, ← said) (put .put-three .ensures ∙ ap placeThree (put .before .before .place-of .ensures)),
         rw (e, ← said) (check .check .ensures .left),
       ),
     )
@@ -49,7 +49,7 @@ ayinzhad-check-spec =
     returns
     check-requires
     place-of-requires
-    put-pair-requires
+    put-three-requires
     number-of-requires
     same-length
     same-length-2

@@ -17,8 +17,8 @@ look-up-fault-requires c κs = search needs
 enum-known-number : tie.Need-enum-known-number
 enum-known-number c = search needs
 
-put-pair-requires : tie.Need-put-pair-requires
-put-pair-requires c κs = search needs
+put-three-requires : tie.Need-put-three-requires
+put-three-requires c κs = search needs
 
 enum-told : tie.Need-enum-told
 enum-told c = search needs
@@ -29,8 +29,8 @@ look-up-start-requires c κs = search needs
 look-up-requires : tie.Need-look-up-requires
 look-up-requires c κs = search needs
 
-put-pair-requires-2 : tie.Need-put-pair-requires-2
-put-pair-requires-2 c κs = search needs
+put-three-requires-2 : tie.Need-put-three-requires-2
+put-three-requires-2 c κs = search needs
 
 same-length : tie.Need-same-length
 same-length c = search needs
@@ -42,7 +42,7 @@ returns-2 c =
     let look = told .before .before in
     let e = eq-eqb _ _ (look .before .if1 .left) in
     let fault = sym (look .look-up-fault .ensures) ∙ told .number .given .1 in
-    (rw (e, fault), rw (e, fault) (put .put-pair .ensures))
+    (rw (e, fault), rw (e, fault) (put .put-three .ensures))
 
 same-length-2 : tie.Need-same-length-2
 same-length-2 c = search needs
@@ -58,7 +58,7 @@ returns-3 c =
     let fault = sym (look .look-up-fault .ensures) ∙ told .enum-told .given .1 in
     let first = rw fault at (start .look-up-start .ensures) in
     let length-of = ap length (rw fault at (part .look-up .ensures .0)) in
-    (rw (e, fault), rw (e, fault) (put .put-pair2 .ensures ∙ rw (first, length-of)))
+    (rw (e, fault), rw (e, fault) (put .put-three2 .ensures ∙ rw (first, length-of)))
 
 pub ayinzhad-look-up-spec : {M : Type 1} → statement M
 ayinzhad-look-up-spec =
@@ -67,11 +67,11 @@ ayinzhad-look-up-spec =
     returns
     look-up-fault-requires
     enum-known-number
-    put-pair-requires
+    put-three-requires
     enum-told
     look-up-start-requires
     look-up-requires
-    put-pair-requires-2
+    put-three-requires-2
     same-length
     returns-2
     same-length-2
