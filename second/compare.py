@@ -16,7 +16,7 @@ from struct import pack
 
 from days import Draw, maximal, medium, small
 from faults import drawn, judged, overlong
-from judge import report
+from judge import ACCEPTED, report
 
 BATCH_PAIRS, BATCH_BYTES = 1000, 1000000
 PAIRS_OF_A_DAY = 8
@@ -29,7 +29,7 @@ def pairs(seed):
     while True:
         size = draw.below(500)
         case = maximal(draw) if size == 0 else medium(draw) if size < 25 else small(draw)
-        yield case.files, (0, 0, 0)
+        yield case.files, ACCEPTED
         for _ in range(PAIRS_OF_A_DAY - 1):
             yield drawn(draw, [case], [overlong]) if draw.below(1000) == 0 else drawn(draw, [case])
 
@@ -116,7 +116,8 @@ class Comparison:
         for number in range(self.count):
             files, verdict = next(source)
             answer = judged(files, verdict)
-            self.numbers[answer.number] = self.numbers.get(answer.number, 0) + 1
+            given = answer.verdict.number
+            self.numbers[given] = self.numbers.get(given, 0) + 1
             batch.append((files, report(answer).encode()))
             size += len(files[0]) + len(files[1])
             self.show(len(batch))

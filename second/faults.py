@@ -12,35 +12,35 @@ from functools import partial
 from struct import pack_into
 
 from days import clip
-from judge import BUY, DAY_LIMITS, FILE_MOST, MOST, SELL, opinion
+from judge import ACCEPTED, BUY, DAY_LIMITS, FILE_MOST, MOST, SELL, Verdict, opinion
 
 Change = namedtuple("Change", "edits verdict")
-Field = namedtuple("Field", "file section at per form least most")
+Field = namedtuple("Field", "file section number at per form least most")
 
 FORMS = {"<B": (0, 255), "<H": (0, 65535), "<i": (-2 ** 31, 2 ** 31 - 1), "<I": (0, 2 ** 32 - 1)}
-FIELDS = {                         # file, section, offset in the row, bytes to the next period, form, range
-    "floor": Field(0, 1, 0, 0, "<i", -MOST, MOST),
-    "ceiling": Field(0, 1, 4, 0, "<i", -MOST, MOST),
-    "code": Field(0, 2, 0, 0, "<H", 1, 65535),
-    "from": Field(0, 3, 0, 0, "<B", 0, "zones"),
-    "to": Field(0, 3, 1, 0, "<B", 0, "zones"),
-    "forward": Field(0, 3, 2, 8, "<I", 0, MOST),
-    "back": Field(0, 3, 6, 8, "<I", 0, MOST),
-    "step zone": Field(0, 4, 0, 0, "<B", 0, "zones"),
-    "step period": Field(0, 4, 1, 0, "<B", 0, "periods"),
-    "step side": Field(0, 4, 2, 0, "<B", 0, 1),
-    "step spare": Field(0, 4, 3, 0, "<B", 0, 0),
-    "step price": Field(0, 4, 4, 0, "<i", -MOST, MOST),
-    "step quantity": Field(0, 4, 8, 0, "<I", 1, MOST),
-    "block zone": Field(0, 5, 0, 0, "<B", 0, "zones"),
-    "block side": Field(0, 5, 1, 0, "<B", 0, 1),
-    "block spare": Field(0, 5, 2, 0, "<H", 0, 0),
-    "block price": Field(0, 5, 4, 0, "<i", -MOST, MOST),
-    "block quantity": Field(0, 5, 8, 4, "<I", 0, MOST),
-    "price": Field(1, 1, 0, 0, "<i", -MOST, MOST),
-    "flow": Field(1, 2, 0, 0, "<i", -MOST, MOST),
-    "volume": Field(1, 3, 0, 0, "<I", 0, MOST),
-    "taken": Field(1, 4, 0, 0, "<B", 0, 1),
+FIELDS = {              # file, section, number, offset, fields of 4 bytes to the next period's, form, range
+    "floor": Field(0, 1, 0, 0, 0, "<i", -MOST, MOST),
+    "ceiling": Field(0, 1, 1, 4, 0, "<i", -MOST, MOST),
+    "code": Field(0, 2, 0, 0, 0, "<H", 1, 65535),
+    "from": Field(0, 3, 0, 0, 0, "<B", 0, "zones"),
+    "to": Field(0, 3, 1, 1, 0, "<B", 0, "zones"),
+    "forward": Field(0, 3, 2, 2, 2, "<I", 0, MOST),
+    "back": Field(0, 3, 3, 6, 2, "<I", 0, MOST),
+    "step zone": Field(0, 4, 0, 0, 0, "<B", 0, "zones"),
+    "step period": Field(0, 4, 1, 1, 0, "<B", 0, "periods"),
+    "step side": Field(0, 4, 2, 2, 0, "<B", 0, 1),
+    "step spare": Field(0, 4, 3, 3, 0, "<B", 0, 0),
+    "step price": Field(0, 4, 4, 4, 0, "<i", -MOST, MOST),
+    "step quantity": Field(0, 4, 5, 8, 0, "<I", 1, MOST),
+    "block zone": Field(0, 5, 0, 0, 0, "<B", 0, "zones"),
+    "block side": Field(0, 5, 1, 1, 0, "<B", 0, 1),
+    "block spare": Field(0, 5, 2, 2, 0, "<H", 0, 0),
+    "block price": Field(0, 5, 3, 4, 0, "<i", -MOST, MOST),
+    "block quantity": Field(0, 5, 4, 8, 1, "<I", 0, MOST),
+    "price": Field(1, 1, 0, 0, 0, "<i", -MOST, MOST),
+    "flow": Field(1, 2, 0, 0, 0, "<i", -MOST, MOST),
+    "volume": Field(1, 3, 0, 0, 0, "<I", 0, MOST),
+    "taken": Field(1, 4, 0, 0, 0, "<B", 0, 1),
 }
 NAMES = tuple(FIELDS)
 
@@ -70,17 +70,17 @@ def altered(case, edits):
         elif name == "count":
             pack_into("<H", files[where[0]], case.starts[where[0]][where[1] - 1], value)
         else:
-            file, section, at, per, form, _, _ = FIELDS[name]
+            file, section, _, at, per, form, _, _ = FIELDS[name]
             row = case.starts[file][section - 1] + 2 + where * case.sizes[file][section - 1]
-            pack_into(form, files[file], row + at + per * sum(period), value)
+            pack_into(form, files[file], row + at + 4 * per * sum(period), value)
     return tuple(bytes(file) for file in files)
 
 
 def judged(files, verdict, room=FILE_MOST):
     """The judge's answer on two files, which has the verdict that is known by construction."""
     answer = opinion(*files, room)
-    if verdict is not None and answer[:3] != verdict:
-        raise AssertionError("the verdict is %s and should be %s" % (answer[:3], verdict))
+    if verdict is not None and answer.verdict != verdict:
+        raise AssertionError("the verdict is %s and should be %s" % (answer.verdict, verdict))
     return answer
 
 
@@ -123,7 +123,8 @@ def outside(draw, least, most):
 def bad_value(name, row, value, period=0):
     """A field outside its range."""
     field = FIELDS[name]
-    return Change([(name, row, value, period)], (7 if field.file else 3, field.section, row))
+    place = field.section, row, field.number + field.per * period
+    return Change([(name, row, value, period)], Verdict(7 if field.file else 3, *place))
 
 
 def out_of_range(case, draw):
@@ -134,36 +135,69 @@ def out_of_range(case, draw):
     return bad_value(name, row, draw.pick(beyond(case, name)), period)
 
 
+def crossings(case, row):
+    """Ways to put a floor above its ceiling, which the ceiling is blamed for; None for one that does not."""
+    floor, ceiling = case.bounds[row]
+    ways = ("floor", ceiling + 1), ("ceiling", floor - 1), ("floor", MOST), ("ceiling", -MOST)
+    return [Change([(name, row, value)], Verdict(3, 1, row, 1))
+            if abs(value) <= MOST and not floor <= value <= ceiling else None for name, value in ways]
+
+
 def bounds_crossed(case, draw):
     """A floor above its ceiling."""
-    row = spot(draw, case.periods)
-    floor, ceiling = case.bounds[row]
-    name, value = draw.pick((("floor", ceiling + 1), ("ceiling", floor - 1),
-                             ("floor", MOST), ("ceiling", -MOST)))
-    need(abs(value) <= MOST and not floor <= value <= ceiling)
-    return Change([(name, row, value)], (3, 1, row))
+    change = draw.pick(crossings(case, spot(draw, case.periods)))
+    need(change)
+    return change
+
+
+def repeats(case, row, lower=1):
+    """Ways to put a code not above the one before it, by its own value, which may be a lower one, or by that
+    of the one before; there are none for the first code."""
+    ways = ()
+    if row > 0:
+        before, code = case.codes[row - 1:row + 1]
+        ways = (row, before), (row, lower), (row - 1, code), (row - 1, 65535)
+    return [Change([("code", at, value)], Verdict(3, 2, row, 0)) for at, value in ways]
 
 
 def code_not_above(case, draw):
-    """A code that is not above the one before it, by its own value or by that of the one before."""
+    """A code that is not above the one before it."""
     row = spot(draw, case.zones)
     need(row > 0)
-    before, code = case.codes[row - 1:row + 1]
-    at, value = draw.pick(((row, before), (row, draw.between(1, before)), (row - 1, code), (row - 1, 65535)))
-    return Change([("code", at, value)], (3, 2, row))
+    return draw.pick(repeats(case, row, draw.between(1, case.codes[row - 1])))
+
+
+def loops(case, row):
+    """Ways to let a line end where it starts, which its "to" is blamed for."""
+    source, target, _ = case.lines[row]
+    return [Change([edit], Verdict(3, 3, row, 1)) for edit in (("from", row, target), ("to", row, source))]
 
 
 def same_ends(case, draw):
     """A line that ends where it starts."""
-    row = spot(draw, len(case.lines))
-    source, target, _ = case.lines[row]
-    return Change([draw.pick((("from", row, target), ("to", row, source)))], (3, 3, row))
+    return draw.pick(loops(case, spot(draw, len(case.lines))))
+
+
+def emptied(case, row):
+    """The way to leave a block no quantity above 0, which its last field is blamed for."""
+    edits = [("block quantity", row, 0, period) for period in range(case.periods)]
+    return [Change(edits, Verdict(3, 5, row, 3 + case.periods))]
 
 
 def no_quantity(case, draw):
     """A block with no quantity above 0."""
-    row = spot(draw, len(case.blocks))
-    return Change([("block quantity", row, 0, period) for period in range(case.periods)], (3, 5, row))
+    return emptied(case, spot(draw, len(case.blocks)))[0]
+
+
+def row_faults(case, file, section, row):
+    """What can be wrong with a row, as lists of changes: first the ways to break the rule between its fields
+    or with the row before, if there are any, then of each field in row order its values outside its range."""
+    ways = {(0, 1): crossings, (0, 2): repeats, (0, 3): loops, (0, 5): emptied}.get((file, section))
+    between = [change for change in ways(case, row) if change] if ways else []
+    alone = [[bad_value(name, row, value, period) for value in beyond(case, name)]
+             for name, field in FIELDS.items() if (field.file, field.section) == (file, section)
+             for period in range(case.periods if field.per else 1)]
+    return ([between] if between else []) + sorted(alone, key=lambda changes: changes[0].verdict)
 
 
 def counts(case, file, section):
@@ -179,10 +213,10 @@ def count_put(case, file, section, value):
     edits, (least, most) = [("count", (file, section), value)], DAY_LIMITS[section - 1]
     end = case.starts[0][section - 1] + 2 + value * case.sizes[0][section - 1]
     if file == 1:
-        return Change(edits, (6, section, 0))
+        return Change(edits, Verdict(6, section))
     if not least <= value <= most:
-        return Change(edits, (2, section, 0))
-    return Change(edits, (1, section, 0) if end > len(case.files[0]) else None)
+        return Change(edits, Verdict(2, section))
+    return Change(edits, Verdict(1, section) if end > len(case.files[0]) else None)
 
 
 def count_wrong(case, draw):
@@ -195,7 +229,7 @@ def count_wrong(case, draw):
 def cut_at(case, file, length):
     """A file cut off."""
     section = min(number for number, end in enumerate(case.starts[file]) if end > length)
-    return Change([("cut", file, length)], (5 if file else 1, section, 0))
+    return Change([("cut", file, length)], Verdict(5 if file else 1, section))
 
 
 def cuts(case, file, section, row):
@@ -226,17 +260,17 @@ def count_first(case, draw):
 def room_first(case, draw):
     """A bad field in a section that is cut: the room for all rows is judged before the rows."""
     change = out_of_range(case, draw)
-    number, section, _ = change.verdict
+    number, section = change.verdict[:2]
     file = FIELDS[change.edits[0][0]].file
     end = case.starts[file][section] - 1
-    return Change(change.edits + [("cut", file, end)], (number - 2, section, 0))
+    return Change(change.edits + [("cut", file, end)], Verdict(number - 2, section))
 
 
 def tail(case, draw):
     """Bytes after the last section: one or many, zeros or any."""
     file = draw.below(2)
     more = draw.pick((1, 1, 2, draw.between(3, 40)))
-    return Change([("tail", file, draw.pick((bytes(more), draw.bytes(more))))], (8 if file else 4, 0, 0))
+    return Change([("tail", file, draw.pick((bytes(more), draw.bytes(more))))], Verdict(8 if file else 4))
 
 
 # ---- damage
@@ -255,14 +289,14 @@ def replaced(case, draw):
     """A file that is empty, of random bytes or the other file."""
     file = draw.below(2)
     value = draw.pick((b"", draw.bytes(draw.below(100)), case.files[1 - file]))
-    return Change([("whole", file, value)], None if value else (5 if file else 1, 1, 0))
+    return Change([("whole", file, value)], None if value else Verdict(5 if file else 1, 1))
 
 
 def overlong(case, draw):
     """A file as long as is read or longer: a good one with a tail, or random bytes behind a good start."""
     file, length = draw.below(2), FILE_MOST + draw.pick((0, 1, 2, draw.below(3000)))
     if draw.below(3):
-        return Change([("tail", file, bytes(length - len(case.files[file])))], (8 if file else 4, 0, 0))
+        return Change([("tail", file, bytes(length - len(case.files[file])))], Verdict(8 if file else 4))
     start = draw.pick((b"", case.files[file][:draw.below(60)]))
     return Change([("whole", file, start + draw.bytes(length - len(start)))], None)
 
@@ -273,7 +307,7 @@ def price_out(case, draw):
     """A price below its floor or above its ceiling."""
     zone, period = spot(draw, case.zones), spot(draw, case.periods)
     value = outside(draw, *case.bounds[period])
-    return Change([("price", zone * case.periods + period, value)], (11, zone, period))
+    return Change([("price", zone * case.periods + period, value)], Verdict(11, zone, period))
 
 
 def bounds_inside(case, draw):
@@ -289,7 +323,7 @@ def bounds_inside(case, draw):
         edit = "ceiling", period, ceiling
     need(floor <= ceiling)
     first = min(each for each, price in enumerate(column) if not floor <= price <= ceiling)
-    return Change([edit], (11, first, period))
+    return Change([edit], Verdict(11, first, period))
 
 
 def span(case, draw):
@@ -303,7 +337,7 @@ def flow_out(case, draw):
     """A flow beyond its capacity, one way or the other."""
     line, period, _, forward, back = span(case, draw)
     value = outside(draw, -back, forward)
-    return Change([("flow", line * case.periods + period, value)], (12, line, period))
+    return Change([("flow", line * case.periods + period, value)], Verdict(12, line, period))
 
 
 def capacity_short(case, draw):
@@ -311,7 +345,7 @@ def capacity_short(case, draw):
     line, period, flow, _, _ = span(case, draw)
     need(flow)
     edit = "forward" if flow > 0 else "back", line, abs(flow) - 1, period
-    return Change([edit], (12, line, period))
+    return Change([edit], Verdict(12, line, period))
 
 
 def quantity_passed(case, draw):
@@ -320,7 +354,7 @@ def quantity_passed(case, draw):
     quantity, volume = case.steps[row][4], case.volumes[row]
     name, value = draw.pick((("volume", quantity + 1), ("volume", MOST), ("step quantity", volume - 1)))
     need(1 <= value <= MOST and (name == "step quantity" or value > quantity))
-    return Change([(name, row, value)], (13, row, 0))
+    return Change([(name, row, value)], Verdict(13, row))
 
 
 def absorbed(case, spared, nets):
@@ -344,9 +378,9 @@ def flow_off(case, draw, settled=False):
     edit = "flow", line * case.periods + period, value
     source, target, _ = case.lines[line]
     if not settled:
-        return Change([edit], (14, min(source, target), period))
+        return Change([edit], Verdict(14, min(source, target), period))
     edits = absorbed(case, None, [(source, period, value - flow), (target, period, flow - value)])
-    return Change(edits + [edit], (16, line, period) if case.rise(line, period) else (0, 0, 0))
+    return Change(edits + [edit], Verdict(16, line, period) if case.rise(line, period) else ACCEPTED)
 
 
 def volume_off(case, draw, settled=False):
@@ -356,9 +390,9 @@ def volume_off(case, draw, settled=False):
     value = other(draw, volume, (volume - 1, volume + 1, 0, quantity), 0, quantity)
     edit = "volume", row, value
     if not settled:
-        return Change([edit], (14, zone, period))
+        return Change([edit], Verdict(14, zone, period))
     edits = absorbed(case, row, [(zone, period, (volume - value) * (1 if side == SELL else -1))])
-    return Change(edits + [edit], (15, row, 0) if case.gain(row) else (0, 0, 0))
+    return Change(edits + [edit], Verdict(15, row) if case.gain(row) else ACCEPTED)
 
 
 def block_turned(case, draw, settled=False):
@@ -367,12 +401,12 @@ def block_turned(case, draw, settled=False):
     (zone, side, limit, quantities), taken = case.blocks[row], case.taken[row]
     edit = "taken", row, 1 - taken
     if not settled:
-        return Change([edit], (14, zone, first_above(quantities)))
+        return Change([edit], Verdict(14, zone, first_above(quantities)))
     sign = 1 if (side == BUY) != bool(taken) else -1
     edits = absorbed(case, None, [(zone, period, sign * each) for period, each in enumerate(quantities)])
     best = case.last_paying(row)
     pays = taken or (limit <= best if side == SELL else limit >= best)
-    return Change(edits + [edit], (0, 0, 0) if pays else (17, row, 0))
+    return Change(edits + [edit], ACCEPTED if pays else Verdict(17, row))
 
 
 def first_above(values):
@@ -389,7 +423,7 @@ def step_moved(case, draw):
                                   ("step period", period, draw.below(case.periods))))
     need(value != old)
     place = {"step zone": (min(zone, value), period), "step period": (zone, min(period, value))}
-    return Change([(name, row, value)], (14,) + place.get(name, (zone, period)))
+    return Change([(name, row, value)], Verdict(14, *place.get(name, (zone, period))))
 
 
 def block_moved(case, draw):
@@ -398,8 +432,8 @@ def block_moved(case, draw):
     zone, side, _, quantities = case.blocks[row]
     need(case.taken[row] and quantities[period] < MOST)
     if draw.below(2):
-        return Change([("block side", row, 1 - side)], (14, zone, first_above(quantities)))
-    return Change([("block quantity", row, quantities[period] + 1, period)], (14, zone, period))
+        return Change([("block side", row, 1 - side)], Verdict(14, zone, first_above(quantities)))
+    return Change([("block quantity", row, quantities[period] + 1, period)], Verdict(14, zone, period))
 
 
 def line_moved(case, draw):
@@ -409,7 +443,7 @@ def line_moved(case, draw):
     end, zone = draw.below(2), draw.below(case.zones)
     need(zone not in case.lines[row][:2] and any(flows))
     edit = ("from", "to")[end], row, zone
-    return Change([edit], (14, min(zone, case.lines[row][end]), first_above(flows)))
+    return Change([edit], Verdict(14, min(zone, case.lines[row][end]), first_above(flows)))
 
 
 def limit_crossed(case, draw):
@@ -417,13 +451,13 @@ def limit_crossed(case, draw):
     row = spot(draw, len(case.steps))
     (zone, period, side, _, quantity), volume = case.steps[row], case.volumes[row]
     if case.gain(row) > 0 and quantity < MOST and draw.below(2):
-        return Change([("step quantity", row, draw.pick((quantity + 1, MOST)))], (15, row, 0))
+        return Change([("step quantity", row, draw.pick((quantity + 1, MOST)))], Verdict(15, row))
     out = draw.pick((1, 1, draw.between(1, 4000)))
     if volume == 0 or (volume < quantity and draw.below(2)):
         out = -out                                          # into the money, and not full
     value = case.price(zone, period) + (out if side == SELL else -out)
     need(abs(value) <= MOST)
-    return Change([("step price", row, value)], (15, row, 0))
+    return Change([("step price", row, value)], Verdict(15, row))
 
 
 def capacity_left(case, draw):
@@ -433,7 +467,7 @@ def capacity_left(case, draw):
     name, old = ("forward", forward) if rise > 0 else ("back", back)
     need(rise and old < MOST)
     edit = name, line, draw.pick((old + 1, MOST)), period
-    return Change([edit], (16, line, period))
+    return Change([edit], Verdict(16, line, period))
 
 
 def limit_unpaid(case, draw):
@@ -443,7 +477,7 @@ def limit_unpaid(case, draw):
     more = draw.pick((1, 1, 1, draw.between(1, 3000)))
     value = case.last_paying(row) + (more if case.blocks[row][1] == SELL else -more)
     need(abs(value) <= MOST)
-    return Change([("block price", row, value)], (17, row, 0))
+    return Change([("block price", row, value)], Verdict(17, row))
 
 
 def price_moved(case, draw):
@@ -458,13 +492,13 @@ def left_alone(case, draw):
     """Another limit or quantity of a rejected block, or wider bounds: still accepted."""
     if draw.below(3) == 0:
         edit = draw.pick((("floor", -MOST), ("ceiling", MOST)))
-        return Change([(edit[0], spot(draw, case.periods), edit[1])], (0, 0, 0))
+        return Change([(edit[0], spot(draw, case.periods), edit[1])], ACCEPTED)
     row = spot(draw, len(case.blocks))
     need(not case.taken[row])
     period = spot(draw, case.periods)
     edit = draw.pick((("block price", row, clip(draw.between(-2 * MOST, 2 * MOST))),
                       ("block quantity", row, draw.pick((1, MOST)), period)))
-    return Change([edit], (0, 0, 0))
+    return Change([edit], ACCEPTED)
 
 
 # ---- two at once
@@ -491,16 +525,22 @@ def touched(case, edit):
 
 
 def order(verdict):
-    """When a verdict is reached: day, clearing, rules; in a file section by section."""
-    number, first, second = verdict
+    """When a verdict is reached: day, clearing, rules; in a file section by section, row by row, field by
+    field."""
+    number, first, second, third = verdict
     if number == 0:
         return (3,)
     if number in (4, 8):
         return number // 8, 9
     if number < 8:
         stage = (number - 1) % 4
-        return number // 5, first, (2, 1, 3)[stage], second
+        return number // 5, first, (2, 1, 3)[stage], second, third
     return (2,) + verdict
+
+
+def both(one, two):
+    """Two changes at once, the second on top of the first; the earlier one is named."""
+    return Change(one.edits + two.edits, min(one.verdict, two.verdict, key=order))
 
 
 def joined(case, one, two):
@@ -509,10 +549,19 @@ def joined(case, one, two):
     shared = any(touched(case, edit) in things for edit in two.edits)
     if one.verdict is None or two.verdict is None:
         shared = True
-    elif one.verdict[0] == two.verdict[0] == 14:            # in one period each can undo the other
+    elif one.verdict.number == two.verdict.number == 14:    # in one period each can undo the other
         single = all(edit[0] in ("flow", "volume") for edit in one.edits + two.edits)
-        shared = not single or one.verdict[2] == two.verdict[2]
-    return Change(one.edits + two.edits, None if shared else min(one.verdict, two.verdict, key=order))
+        shared = not single or one.verdict.second == two.verdict.second
+    return Change(one.edits + two.edits, None) if shared else both(one, two)
+
+
+def two_fields(case, draw):
+    """Two faults in one row, of which the first in row order is named."""
+    section = 1 + draw.below(5)
+    faults = row_faults(case, 0, section, spot(draw, case.counts[0][section - 1]))
+    one, two = draw.below(len(faults)), draw.below(len(faults))
+    need(one != two)
+    return both(draw.pick(faults[min(one, two)]), draw.pick(faults[max(one, two)]))
 
 
 def two_faults(case, draw):
@@ -526,7 +575,7 @@ def twice(case, draw, kind=None):
     other the lesser period or row."""
     kind = kind or draw.pick(TWICE)
     one, two = kind(case, draw), kind(case, draw)
-    (number, row, period), (_, other_row, other_period) = one.verdict, two.verdict
+    (number, row, period, _), (_, other_row, other_period, _) = one.verdict, two.verdict
     need((row - other_row) * (period - other_period) < 0 or (number in (13, 15, 17) and row != other_row))
     return joined(case, one, two)
 
@@ -535,7 +584,7 @@ TWICE = (out_of_range, price_out, flow_out, quantity_passed, flow_off, volume_of
          capacity_left, limit_unpaid)
 DAMAGE = (flipped, replaced, count_first, room_first, price_moved)
 KINDS = (READING + RULES * 2 + BALANCED * 2 + DAMAGE + (two_faults,) * 8 + (twice,) * 4
-         + (out_of_range, flipped, price_moved))
+         + (out_of_range, flipped, price_moved, two_fields, two_fields))
 
 
 def drawn(draw, cases, kinds=KINDS):

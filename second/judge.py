@@ -1,7 +1,8 @@
 """The second opinion: the rule paper said again in Python.
 
 judge(day, clearing, room) judges two byte strings for a room of so many bytes; opinion(day, clearing) is
-what a program says of two files; report(answer) is what it prints.
+what a program says of two files; report(answer) is what it prints. reading(day, clearing) is the verdict on
+the reading of two files alone; look_up(day, section) gives back the rows of a section.
 """
 from collections import namedtuple
 from struct import calcsize, iter_unpack, pack, unpack_from
@@ -12,17 +13,19 @@ SELL, BUY = 0, 1
 DAY_LIMITS = ((1, 25), (1, 8), (0, 16), (0, 2000), (0, 100))
 TOTALS = ("order value", "buyers", "sellers", "rent", "traded", "shortfall")
 
-Day = namedtuple("Day", "bounds codes lines steps blocks")
+Verdict = namedtuple("Verdict", "number first second third", defaults=(0, 0, 0))     # a number and a place
+Day = namedtuple("Day", "bounds codes lines steps blocks ends")
 Clearing = namedtuple("Clearing", "prices flows volumes taken")
-Answer = namedtuple("Answer", "number first second totals codes nets statement")
+Answer = namedtuple("Answer", "verdict totals codes nets statement")
+ACCEPTED = Verdict(0)
 
 
 class Refusal(Exception):
-    """A number and a place."""
+    """A verdict that is not "accepted"."""
 
-    def __init__(self, number, first=0, second=0):
-        Exception.__init__(self, number, first, second)
-        self.verdict = (number, first, second)
+    def __init__(self, *verdict):
+        Exception.__init__(self, *verdict)
+        self.verdict = Verdict(*verdict)
 
 
 def is_price(value):
@@ -30,58 +33,64 @@ def is_price(value):
     return -MOST <= value <= MOST
 
 
-def section(file, at, number, form, limits, ends, miscounted):
-    """The rows of the section that starts at a place, and its end: count, its limits, room for all rows."""
-    if len(file) < at + 2:
-        raise Refusal(ends, number)
-    count = unpack_from("<H", file, at)[0]
+def section(file, ends, form, limits, cut_off, miscounted):
+    """The rows of the section that starts where the one before it ended: count, its limits, room for all
+    rows. ends begins with 0 and gets the end of each section."""
+    number, start = len(ends), ends[-1] + 2
+    if len(file) < start:
+        raise Refusal(cut_off, number)
+    count = unpack_from("<H", file, start - 2)[0]
     if not limits[0] <= count <= limits[1]:
         raise Refusal(miscounted, number)
-    end = at + 2 + count * calcsize(form)
+    end = start + count * calcsize(form)
     if len(file) < end:
-        raise Refusal(ends, number)
-    return list(iter_unpack(form, file[at + 2:end])), end
+        raise Refusal(cut_off, number)
+    ends.append(end)
+    return list(iter_unpack(form, file[start:end]))
+
+
+def keep_ranges(number, section_number, row, good):
+    """Refuse a row by its first field that is not good. good tells of each field, in row order, whether it is
+    in its range by itself and against the fields before it and the row before."""
+    if False in good:
+        raise Refusal(number, section_number, row, good.index(False))
 
 
 def read_day(file):
     """The day file's rows, or the first fault of its reading."""
-    bounds, at = section(file, 0, 1, "<ii", DAY_LIMITS[0], 1, 2)
+    ends = [0]
+    bounds = section(file, ends, "<ii", DAY_LIMITS[0], 1, 2)
     for row, (floor, ceiling) in enumerate(bounds):
-        if not (is_price(floor) and is_price(ceiling) and floor <= ceiling):
-            raise Refusal(3, 1, row)
+        keep_ranges(3, 1, row, [is_price(floor), is_price(ceiling) and floor <= ceiling])
     periods = len(bounds)
 
-    rows, at = section(file, at, 2, "<H", DAY_LIMITS[1], 1, 2)
-    codes = [code for code, in rows]
+    codes = [code for code, in section(file, ends, "<H", DAY_LIMITS[1], 1, 2)]
     for row, code in enumerate(codes):
-        if code < 1 or (row > 0 and code <= codes[row - 1]):
-            raise Refusal(3, 2, row)
+        keep_ranges(3, 2, row, [code >= 1 and (row == 0 or code > codes[row - 1])])
     zones = len(codes)
 
-    rows, at = section(file, at, 3, "<BB%dI" % (2 * periods), DAY_LIMITS[2], 1, 2)
+    rows = section(file, ends, "<BB%dI" % (2 * periods), DAY_LIMITS[2], 1, 2)
+    for row, (source, target, *capacities) in enumerate(rows):
+        keep_ranges(3, 3, row, [source < zones, target < zones and target != source]
+                    + [capacity <= MOST for capacity in capacities])
     lines = [(row[0], row[1], row[2::2], row[3::2]) for row in rows]
-    for row, (source, target, forward, back) in enumerate(lines):
-        if source >= zones or target >= zones or source == target or max(forward + back) > MOST:
-            raise Refusal(3, 3, row)
 
-    rows, at = section(file, at, 4, "<BBBBiI", DAY_LIMITS[3], 1, 2)
+    rows = section(file, ends, "<BBBBiI", DAY_LIMITS[3], 1, 2)
     for row, (zone, period, side, spare, limit, quantity) in enumerate(rows):
-        if zone >= zones or period >= periods or side > 1 or spare != 0:
-            raise Refusal(3, 4, row)
-        if not (is_price(limit) and 1 <= quantity <= MOST):
-            raise Refusal(3, 4, row)
+        keep_ranges(3, 4, row, [zone < zones, period < periods, side <= 1, spare == 0, is_price(limit),
+                                1 <= quantity <= MOST])
     steps = [(zone, period, side, limit, quantity) for zone, period, side, _, limit, quantity in rows]
 
-    rows, at = section(file, at, 5, "<BBHi%dI" % periods, DAY_LIMITS[4], 1, 2)
+    rows = section(file, ends, "<BBHi%dI" % periods, DAY_LIMITS[4], 1, 2)
     for row, (zone, side, spare, limit, *quantities) in enumerate(rows):
-        if zone >= zones or side > 1 or spare != 0:
-            raise Refusal(3, 5, row)
-        if not (is_price(limit) and 0 < max(quantities) <= MOST):
-            raise Refusal(3, 5, row)
+        good = [zone < zones, side <= 1, spare == 0, is_price(limit)]
+        good += [quantity <= MOST for quantity in quantities]
+        good[-1] = good[-1] and any(quantities)     # the last field of a block with no quantity
+        keep_ranges(3, 5, row, good)
     blocks = [(row[0], row[1], row[3], row[4:]) for row in rows]
-    if at != len(file):
+    if ends[-1] != len(file):
         raise Refusal(4)
-    return Day(bounds, codes, lines, steps, blocks)
+    return Day(bounds, codes, lines, steps, blocks, ends)
 
 
 def read_clearing(file, day):
@@ -91,22 +100,40 @@ def read_clearing(file, day):
                 ("<i", len(day.lines) * periods, is_price),
                 ("<I", len(day.steps), lambda volume: volume <= MOST),
                 ("<B", len(day.blocks), lambda taken: taken <= 1))
-    read, at = [], 0
+    read, ends = [], [0]
     for number, (form, count, in_range) in enumerate(sections, 1):
-        rows, at = section(file, at, number, form, (count, count), 5, 6)
-        values = [value for value, in rows]
+        values = [value for value, in section(file, ends, form, (count, count), 5, 6)]
         for row, value in enumerate(values):
-            if not in_range(value):
-                raise Refusal(7, number, row)
+            keep_ranges(7, number, row, [in_range(value)])
         read.append(values)
-    if at != len(file):
+    if ends[-1] != len(file):
         raise Refusal(8)
     return Clearing(*read)
 
 
+def reading(day_file, clearing_file):
+    """The verdict on two files of which nothing is asked but that they read without fault."""
+    try:
+        read_clearing(clearing_file, read_day(day_file))
+    except Refusal as refusal:
+        return refusal.verdict
+    return ACCEPTED
+
+
+def look_up(day_file, number):
+    """The verdict on the look-up of a section, and its rows as a part of the day file, empty if refused."""
+    if not 1 <= number <= len(DAY_LIMITS):
+        return Verdict(19), b""
+    try:
+        ends = read_day(day_file).ends
+    except Refusal as refusal:
+        return refusal.verdict, b""
+    return ACCEPTED, day_file[ends[number - 1] + 2:ends[number]]
+
+
 def keep_rules(day, clearing):
     """The net positions of a clearing that keeps all rules, or the first broken rule at its first place."""
-    bounds, codes, lines, steps, blocks = day
+    bounds, codes, lines, steps, blocks, _ = day
     prices, flows, volumes, taken = clearing
     periods = len(bounds)
     cells = [(zone, period) for zone in range(len(codes)) for period in range(periods)]
@@ -202,13 +229,13 @@ def judge(day_file, clearing_file, room):
         if room < 2 + 6 * 8 + 2 + 4 * len(nets):
             raise Refusal(18)
     except Refusal as refusal:
-        return Answer(*refusal.verdict, None, None, None, None)
+        return Answer(refusal.verdict, None, None, None, None)
     totals = totals_of(day, clearing)
     value, buyers, sellers, rent, _, shortfall = totals
     if value != buyers + sellers + rent or rent < 0 or shortfall < 0:
         raise AssertionError("the totals of an accepted clearing disagree")
     statement = pack("<H6qH%di" % len(nets), 6, *totals, len(nets), *nets)
-    return Answer(0, 0, 0, totals, day.codes, nets, statement)
+    return Answer(ACCEPTED, totals, day.codes, nets, statement)
 
 
 def opinion(day_file, clearing_file, room=FILE_MOST):
@@ -218,8 +245,8 @@ def opinion(day_file, clearing_file, room=FILE_MOST):
 
 def report(answer):
     """The text that a program prints of an answer."""
-    lines = ["verdict %d %d %d" % answer[:3]]
-    if answer.number == 0:
+    lines = ["verdict %d %d %d %d" % answer.verdict]
+    if answer.verdict == ACCEPTED:
         periods = len(answer.nets) // len(answer.codes)
         lines += ["%s %d" % total for total in zip(TOTALS, answer.totals)]
         lines += ["net %d %d %d" % (answer.codes[cell // periods], cell % periods, net)
