@@ -29,7 +29,7 @@ struct file {
 
 struct verdict {
     unsigned number;
-    size_t place[2];
+    size_t place[AYINZHAD_PLACE];
 };
 
 static _Noreturn void fail(const char *what, const char *which)
@@ -78,6 +78,14 @@ static void take_file(struct file *file, size_t length)
         if (getchar() == EOF) fail("the pairs end early", "");
 }
 
+/* Prints the number and the place. */
+static void print_verdict(const struct verdict *v)
+{
+    printf("verdict %u", v->number);
+    for (size_t i = 0; i < AYINZHAD_PLACE; i++) printf(" %zu", v->place[i]);
+    putchar('\n');
+}
+
 /* Prints an accepted day's statement and gives its length. */
 static size_t print_statement(const struct file *day, const uint8_t *room)
 {
@@ -101,23 +109,24 @@ static int all_are(const uint8_t *bytes, size_t length, uint8_t value)
 }
 
 /* Other rooms for an accepted pair with this statement: one a byte too short is 18 and stays as it was, one
-   that just fits gets the statement and no more; and a place of one number is 255 and changes nothing. */
+   that just fits gets the statement and no more; and a place one number short is 255 and changes nothing. */
 static void try_rooms(check *by, const struct file *day, const struct file *clearing, const uint8_t *room,
                       size_t length)
 {
     uint8_t other[ROOM + BEHIND];
     memset(other, 0x55, sizeof other);
     struct verdict v = harness_call(by, day, clearing, other, length - 1);
-    if (v.number != 18 || v.place[0] || v.place[1] || !all_are(other, sizeof other, 0x55))
+    if (v.number != 18 || !all_are((const uint8_t *)v.place, sizeof v.place, 0)
+        || !all_are(other, sizeof other, 0x55))
         fail("a room one byte short", "is not 18, or changed");
     v = harness_call(by, day, clearing, other, length);
     if (v.number || memcmp(other, room, length) || !all_are(other + length, sizeof other - length, 0x55))
         fail("a room that just fits", "is not the statement alone");
-    size_t place[2] = {7, 7};
-    if (by(day->bytes, day->length, clearing->bytes, clearing->length, other, length, place, 1)
-            != AYINZHAD_WRONG_LENGTH
-        || place[0] != 7 || place[1] != 7)
-        fail("a place of one number", "is not 255, or changed");
+    memset(v.place, 0x55, sizeof v.place);
+    if (by(day->bytes, day->length, clearing->bytes, clearing->length, other, length, v.place,
+           AYINZHAD_PLACE - 1) != AYINZHAD_WRONG_LENGTH
+        || !all_are((const uint8_t *)v.place, sizeof v.place, 0x55))
+        fail("a place one number short", "is not 255, or changed");
 }
 
 static void verdicts(check *by)
@@ -130,7 +139,7 @@ static void verdicts(check *by)
         take_file(&clearing, at32(lengths + 4));
         memset(room, 0xaa, sizeof room);
         struct verdict v = harness_call(by, &day, &clearing, room, ROOM);
-        printf("verdict %u %zu %zu\n", v.number, v.place[0], v.place[1]);
+        print_verdict(&v);
         size_t length = v.number ? 0 : print_statement(&day, room);
         if (!all_are(room + length, sizeof room - length, 0xaa))
             fail("a room changed", v.number ? "by a refusal" : "behind the statement");

@@ -16,7 +16,7 @@
 #include <string.h>
 
 enum { MOST = 1000000, PERIODS = 25, ZONES = 8, LINES = 16, STEPS = 2000, BLOCKS = 100 };
-enum { STEP = 12, TOTALS = 6, HEAD = 2 + 8 * TOTALS + 2 };
+enum { STEP = 12, TOTALS = 6, HEAD = 2 + 8 * TOTALS + 2, PLACE = 3 };
 
 /* A cell is zone times 32 plus period. */
 enum { WIDTH = 32, CELLS = ZONES * WIDTH };
@@ -30,7 +30,7 @@ static inline int64_t signed32(const uint8_t *p) { int32_t v; memcpy(&v, p, 4); 
 enum { PERIOD_ROWS, ZONE_ROWS, LINE_ROWS, STEP_ROWS, BLOCK_ROWS, PRICES, FLOWS, VOLUMES, TAKEN, SECTIONS };
 
 struct files {
-    size_t count[SECTIONS], size[SECTIONS]; /* how many rows, how long each */
+    size_t count[SECTIONS];
     const uint8_t *rows[SECTIONS];
 };
 
@@ -39,20 +39,33 @@ struct rest {
     size_t length;
 };
 
+/* How long a row of section s is; the periods are counted before the first row whose length they decide. */
+static inline size_t row_length(const struct files *f, int s)
+{
+    switch (s) {
+    case PERIOD_ROWS: return 8;
+    case ZONE_ROWS: return 2;
+    case LINE_ROWS: return 2 + 8 * f->count[PERIOD_ROWS];
+    case STEP_ROWS: return STEP;
+    case BLOCK_ROWS: return 8 + 4 * f->count[PERIOD_ROWS];
+    case TAKEN: return 1;
+    default: return 4;
+    }
+}
+
 /* Opens a section: its count, the count's limits, room for all rows. `cut` is 1 in the day file and 5 in the
    clearing file; the other refusals of a file follow it. Gives 0 or the refusal. */
-static inline int open_section(struct files *f, int s, struct rest *rest, size_t least, size_t most,
-                               size_t size, int cut)
+static inline int open_section(struct files *f, int s, struct rest *rest, size_t least, size_t most, int cut)
 {
     if (rest->length < 2) return cut;
     size_t count = load16(rest->at);
     if (count < least || count > most) return cut + 1;
-    if (rest->length - 2 < count * size) return cut;
+    size_t length = count * row_length(f, s);
+    if (rest->length - 2 < length) return cut;
     f->count[s] = count;
-    f->size[s] = size;
     f->rows[s] = rest->at + 2;
-    rest->at += 2 + count * size;
-    rest->length -= 2 + count * size;
+    rest->at += 2 + length;
+    rest->length -= 2 + length;
     return 0;
 }
 
@@ -61,21 +74,24 @@ static inline int open_next(struct files *f, int s, struct rest *day, struct res
 {
     const size_t *n = f->count, h = s > PERIOD_ROWS ? n[PERIOD_ROWS] : 0;
     switch (s) {
-    case PERIOD_ROWS: return open_section(f, s, day, 1, PERIODS, 8, 1);
-    case ZONE_ROWS: return open_section(f, s, day, 1, ZONES, 2, 1);
-    case LINE_ROWS: return open_section(f, s, day, 0, LINES, 2 + 8 * h, 1);
-    case STEP_ROWS: return open_section(f, s, day, 0, STEPS, STEP, 1);
-    case BLOCK_ROWS: return open_section(f, s, day, 0, BLOCKS, 8 + 4 * h, 1);
-    case PRICES: return open_section(f, s, clearing, n[ZONE_ROWS] * h, n[ZONE_ROWS] * h, 4, 5);
-    case FLOWS: return open_section(f, s, clearing, n[LINE_ROWS] * h, n[LINE_ROWS] * h, 4, 5);
-    case VOLUMES: return open_section(f, s, clearing, n[STEP_ROWS], n[STEP_ROWS], 4, 5);
-    default: return open_section(f, s, clearing, n[BLOCK_ROWS], n[BLOCK_ROWS], 1, 5);
+    case PERIOD_ROWS: return open_section(f, s, day, 1, PERIODS, 1);
+    case ZONE_ROWS: return open_section(f, s, day, 1, ZONES, 1);
+    case LINE_ROWS: return open_section(f, s, day, 0, LINES, 1);
+    case STEP_ROWS: return open_section(f, s, day, 0, STEPS, 1);
+    case BLOCK_ROWS: return open_section(f, s, day, 0, BLOCKS, 1);
+    case PRICES: return open_section(f, s, clearing, n[ZONE_ROWS] * h, n[ZONE_ROWS] * h, 5);
+    case FLOWS: return open_section(f, s, clearing, n[LINE_ROWS] * h, n[LINE_ROWS] * h, 5);
+    case VOLUMES: return open_section(f, s, clearing, n[STEP_ROWS], n[STEP_ROWS], 5);
+    default: return open_section(f, s, clearing, n[BLOCK_ROWS], n[BLOCK_ROWS], 5);
     }
 }
 
 /* -------------------------------------------------- the plain judge, for what is refused */
 
-static const uint8_t *row_at(const struct files *f, int s, size_t r) { return f->rows[s] + f->size[s] * r; }
+static const uint8_t *row_at(const struct files *f, int s, size_t r)
+{
+    return f->rows[s] + row_length(f, s) * r;
+}
 
 static int64_t price_at(const struct files *f, size_t zone, size_t period)
 {
@@ -86,55 +102,101 @@ static int in_range(int64_t v, int64_t least, int64_t most) { return least <= v 
 
 static int is_price(const uint8_t *p) { return in_range(signed32(p), -MOST, MOST); }
 
-static uint32_t greatest(const uint8_t *numbers, size_t n)
+/* How many fields a row of section s has; spare bytes are fields too. */
+static size_t fields_in(const struct files *f, int s)
 {
-    uint32_t most = 0;
-    for (size_t i = 0; i < n; i++)
-        if (load32(numbers + 4 * i) > most) most = load32(numbers + 4 * i);
-    return most;
+    size_t h = f->count[PERIOD_ROWS];
+    switch (s) {
+    case PERIOD_ROWS: return 2;
+    case LINE_ROWS: return 2 + 2 * h;
+    case STEP_ROWS: return 6;
+    case BLOCK_ROWS: return 4 + h;
+    default: return 1;
+    }
 }
 
-/* Whether row r of section s keeps its fields' ranges and its section's rule. */
-static int row_holds(const struct files *f, int s, size_t r)
+/* Whether a field of a line is in range, by itself and against the fields before it, which hold. */
+static int line_field_holds(const uint8_t *row, size_t zones, size_t field)
 {
-    size_t h = f->count[PERIOD_ROWS], zones = f->count[ZONE_ROWS];
+    switch (field) {
+    case 0: return row[0] < zones;
+    case 1: return row[1] < zones && row[1] != row[0];
+    default: return load32(row + 2 + 4 * (field - 2)) <= MOST;
+    }
+}
+
+/* Likewise for a step. */
+static int step_field_holds(const uint8_t *row, size_t zones, size_t h, size_t field)
+{
+    switch (field) {
+    case 0: return row[0] < zones;
+    case 1: return row[1] < h;
+    case 2: return row[2] <= 1;
+    case 3: return row[3] == 0;
+    case 4: return is_price(row + 4);
+    default: return in_range(load32(row + 8), 1, MOST);
+    }
+}
+
+static int any_above_0(const uint8_t *numbers, size_t n)
+{
+    for (size_t i = 0; i < n; i++)
+        if (load32(numbers + 4 * i)) return 1;
+    return 0;
+}
+
+/* Likewise for a block. Its last quantity also answers for a block that has none. */
+static int block_field_holds(const uint8_t *row, size_t zones, size_t h, size_t field)
+{
+    switch (field) {
+    case 0: return row[0] < zones;
+    case 1: return row[1] <= 1;
+    case 2: return load16(row + 2) == 0;
+    case 3: return is_price(row + 4);
+    default:
+        return load32(row + 8 + 4 * (field - 4)) <= MOST && (field < 3 + h || any_above_0(row + 8, h));
+    }
+}
+
+/* Whether a field of row r of section s is in range, by itself and against the fields before it and the row
+   before, which hold. */
+static int field_holds(const struct files *f, int s, size_t r, size_t field)
+{
+    const size_t *n = f->count;
     const uint8_t *row = row_at(f, s, r);
     switch (s) {
-    case PERIOD_ROWS: return is_price(row) && is_price(row + 4) && signed32(row) <= signed32(row + 4);
+    case PERIOD_ROWS: return is_price(row + 4 * field) && signed32(row) <= signed32(row + 4 * field);
     case ZONE_ROWS: return load16(row) > (r ? load16(row - 2) : 0);
-    case LINE_ROWS:
-        return row[0] < zones && row[1] < zones && row[0] != row[1] && greatest(row + 2, 2 * h) <= MOST;
-    case STEP_ROWS:
-        return row[0] < zones && row[1] < h && row[2] <= 1 && row[3] == 0 && is_price(row + 4)
-               && in_range(load32(row + 8), 1, MOST);
-    case BLOCK_ROWS:
-        return row[0] < zones && row[1] <= 1 && load16(row + 2) == 0 && is_price(row + 4)
-               && in_range(greatest(row + 8, h), 1, MOST);
+    case LINE_ROWS: return line_field_holds(row, n[ZONE_ROWS], field);
+    case STEP_ROWS: return step_field_holds(row, n[ZONE_ROWS], n[PERIOD_ROWS], field);
+    case BLOCK_ROWS: return block_field_holds(row, n[ZONE_ROWS], n[PERIOD_ROWS], field);
     case VOLUMES: return load32(row) <= MOST;
     case TAKEN: return row[0] <= 1;
     default: return is_price(row);
     }
 }
 
-static uint8_t refuse(size_t *place, int number, size_t first, size_t second)
+static uint8_t refuse(size_t *place, int number, size_t first, size_t second, size_t third)
 {
     place[0] = first;
     place[1] = second;
+    place[2] = third;
     return (uint8_t)number;
 }
 
-/* Refusals 1 to 8: section by section, the rows of each before the next is opened. */
+/* Refusals 1 to 8: section by section, the rows of each, field by field, before the next is opened. */
 static uint8_t judge_reading(struct files *f, struct rest day, struct rest clearing, size_t *place)
 {
     for (int s = 0; s < SECTIONS; s++) {
         size_t section = (size_t)(s < PRICES ? s + 1 : s - PRICES + 1);
-        if (s == PRICES && day.length) return refuse(place, 4, 0, 0);
+        if (s == PRICES && day.length) return refuse(place, 4, 0, 0, 0);
         int fault = open_next(f, s, &day, &clearing);
-        if (fault) return refuse(place, fault, section, 0);
+        if (fault) return refuse(place, fault, section, 0, 0);
         for (size_t r = 0; r < f->count[s]; r++)
-            if (!row_holds(f, s, r)) return refuse(place, s < PRICES ? 3 : 7, section, r);
+            for (size_t i = 0; i < fields_in(f, s); i++)
+                if (!field_holds(f, s, r, i)) return refuse(place, s < PRICES ? 3 : 7, section, r, i);
     }
-    return refuse(place, clearing.length ? 8 : 0, 0, 0);
+    return refuse(place, clearing.length ? 8 : 0, 0, 0, 0);
 }
 
 /* Supply less demand and less what leaves, for each zone and period. */
@@ -215,9 +277,9 @@ static uint8_t judge_rules(const struct files *f, size_t *place)
         size_t periods = s == ZONE_ROWS || s == LINE_ROWS ? f->count[PERIOD_ROWS] : 1;
         for (size_t r = 0; r < f->count[s]; r++)
             for (size_t i = 0; i < periods; i++)
-                if (!rule_holds(f, rule, r, i, imbalance)) return refuse(place, rule, r, i);
+                if (!rule_holds(f, rule, r, i, imbalance)) return refuse(place, rule, r, i, 0);
     }
-    return refuse(place, 0, 0, 0);
+    return refuse(place, 0, 0, 0, 0);
 }
 
 /* -------------------------------------------------- the check */
@@ -247,13 +309,14 @@ static inline void write_statement(const struct files *f, const uint32_t *leavin
         memcpy(room + HEAD + 4 * z * h, leaving + z * WIDTH, 4 * h);
 }
 
-/* Judges a clearing file against a day file: 0 accepted, 1 to 8 and 11 to 18 refused, with the two numbers
-   of the place. On acceptance the statement stands at the front of the room; a refusal leaves the room as it
-   was. `places` is the length of `place` and must be 2, else the answer is 255 and nothing changes. */
+/* Judges a clearing file against a day file: 0 accepted, 1 to 8 and 11 to 18 refused, with the three numbers
+   of the place; the third is the field of refusals 3 and 7, else 0. On acceptance the statement stands at the
+   front of the room; a refusal leaves the room as it was. `places` is the length of `place` and must be
+   PLACE, else the answer is 255 and nothing changes. */
 static inline uint8_t check_by(quick_pass *quick, struct rest day, struct rest clearing, uint8_t *room,
                                size_t room_length, size_t *place, size_t places)
 {
-    if (places != 2) return 255;
+    if (places != PLACE) return 255;
     struct files f;
     _Alignas(16) uint32_t leaving[CELLS] = {0}; /* aligned as vectors are */
     uint64_t totals[TOTALS];
@@ -261,9 +324,9 @@ static inline uint8_t check_by(quick_pass *quick, struct rest day, struct rest c
         uint8_t fault = judge_reading(&f, day, clearing, place);
         return fault ? fault : judge_rules(&f, place);
     }
-    if (room_length < HEAD + 4 * f.count[PRICES]) return refuse(place, 18, 0, 0);
+    if (room_length < HEAD + 4 * f.count[PRICES]) return refuse(place, 18, 0, 0, 0);
     write_statement(&f, leaving, totals, room);
-    return refuse(place, 0, 0, 0);
+    return refuse(place, 0, 0, 0, 0);
 }
 
 #endif
