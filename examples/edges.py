@@ -6,7 +6,7 @@ import ctypes
 import pathlib
 import sys
 
-from verdict import Ayinzhad
+from verdict import PLACE, Ayinzhad
 
 FILL = 170
 
@@ -27,26 +27,26 @@ def main(path, folder):
         print("%-58s %s" % (what, "holds" if got == wanted else "is %r and not %r" % (got, wanted)))
 
     # pointers to nothing, with length 0
-    place = filled(ctypes.c_size_t, 2)
-    hold("no files at all", (library.ayinzhad_check(None, 0, None, 0, None, 0, place, 2), *place), (1, 1, 0))
-    place = filled(ctypes.c_size_t, 2)
-    hold("no clearing file", (library.ayinzhad_check(day, len(day), None, 0, None, 0, place, 2), *place), (5, 1, 0))
-    place = filled(ctypes.c_size_t, 2)
-    hold("no room", (library.ayinzhad_check(*files, None, 0, place, 2), *place), (18, 0, 0))
+    place = filled(ctypes.c_size_t, PLACE)
+    hold("no files at all", (library.ayinzhad_check(None, 0, None, 0, None, 0, place, PLACE), *place), (1, 1, 0, 0))
+    place = filled(ctypes.c_size_t, PLACE)
+    hold("no clearing file", (library.ayinzhad_check(day, len(day), None, 0, None, 0, place, PLACE), *place), (5, 1, 0, 0))
+    place = filled(ctypes.c_size_t, PLACE)
+    hold("no room", (library.ayinzhad_check(*files, None, 0, place, PLACE), *place), (18, 0, 0, 0))
     hold("no place", library.ayinzhad_check(*files, None, 0, None, 0), 255)
     hold("no totals", library.ayinzhad_totals(*files, None, 0), 255)
     hold("nothing for what is found", library.ayinzhad_look_up(day, len(day), 1, None, 0), 255)
 
     # rooms
-    for length, number, place in ((59, 18, (0, 0)), (60, 0, (0, 0)), (61, 0, (0, 0))):
-        room, lent = filled(ctypes.c_uint8, length), filled(ctypes.c_size_t, 2)
-        got = library.ayinzhad_check(*files, room, length, lent, 2), tuple(lent)
+    for length, number, place in ((59, 18, (0, 0, 0)), (60, 0, (0, 0, 0)), (61, 0, (0, 0, 0))):
+        room, lent = filled(ctypes.c_uint8, length), filled(ctypes.c_size_t, PLACE)
+        got = library.ayinzhad_check(*files, room, length, lent, PLACE), tuple(lent)
         hold("a room of %d bytes" % length, got, (number, place))
         kept = bytes(room) if number else bytes(room)[60:]
         hold("  is as it was" if number else "  is as it was behind the statement", kept, bytes([FILL]) * len(kept))
 
     # answers of another length: 255, and nothing changes
-    for length in (0, 1, 3):
+    for length in (0, 1, 2, 4):
         room, lent = filled(ctypes.c_uint8, 60), filled(ctypes.c_size_t, length)
         got = library.ayinzhad_check(*files, room, 60, lent, length)
         hold("a place of %d" % length, (got, set(lent) | set(room)), (255, {FILL}))
@@ -65,8 +65,16 @@ def main(path, folder):
     hold("the zones", checker.look_up(day, 2), (0, bytes([10, 0, 20, 0])))
     hold("the rows of all sections", [len(checker.look_up(day, k)[1]) for k in range(1, 6)], [8, 4, 10, 48, 12])
     for section in (0, 6, 2 ** 64 - 1):
-        hold("section %d" % section, checker.look_up(day, section), (19, (0, 0)))
-    hold("a section of a day file with one byte more", checker.look_up(day + b"\0", 1), (4, (0, 0)))
+        hold("section %d" % section, checker.look_up(day, section), (19, (0, 0, 0)))
+    hold("a section of a day file with one byte more", checker.look_up(day + b"\0", 1), (4, (0, 0, 0)))
+
+    # a refusal for a field names it: the spare byte, and the price behind it, of the step 1
+    start = day.index(checker.look_up(day, 4)[1])
+    for field, offset in ((3, 3), (4, 7)):
+        bad = bytearray(day)
+        bad[start + 12 + offset] = 100
+        hold("field %d of the step 1" % field, checker.check(bytes(bad), clearing)[:2], (3, (4, 1, field)))
+        hold("  named by the look-up", checker.look_up(bytes(bad), 1), (3, (4, 1, field)))
     return 0 if all(said) else 1
 
 

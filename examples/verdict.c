@@ -50,7 +50,7 @@ int main(int count, char **words)
     uint8_t room[AYINZHAD_LONGEST];
     size_t place[AYINZHAD_PLACE];
     uint8_t verdict = ayinzhad_check(day, day_length, clearing, clearing_length, room, sizeof room, place, AYINZHAD_PLACE);
-    printf("verdict %u %zu %zu\n", verdict, place[0], place[1]);
+    printf("verdict %u %zu %zu %zu\n", verdict, place[0], place[1], place[2]);
     if (verdict != 0)
         return 0;
 

@@ -8,6 +8,7 @@ import pathlib
 import sys
 
 LONGEST = 852
+PLACE = 3
 TOTALS = ("order value", "buyers", "sellers", "rent", "traded", "shortfall")
 
 
@@ -24,8 +25,8 @@ class Ayinzhad:
 
     def check(self, day, clearing, room=LONGEST):
         """Number, place, and the bytes of a room of that length after the check."""
-        lent, place = (ctypes.c_uint8 * room)(), (ctypes.c_size_t * 2)()
-        number = self.library.ayinzhad_check(day, len(day), clearing, len(clearing), lent, room, place, 2)
+        lent, place = (ctypes.c_uint8 * room)(), (ctypes.c_size_t * PLACE)()
+        number = self.library.ayinzhad_check(day, len(day), clearing, len(clearing), lent, room, place, PLACE)
         return number, tuple(place), bytes(lent)
 
     def totals(self, day, clearing):
@@ -36,8 +37,8 @@ class Ayinzhad:
 
     def look_up(self, day, section):
         """Number, and the rows of the section, or the place of the refusal."""
-        found = (ctypes.c_size_t * 2)()
-        number = self.library.ayinzhad_look_up(day, len(day), section, found, 2)
+        found = (ctypes.c_size_t * PLACE)()
+        number = self.library.ayinzhad_look_up(day, len(day), section, found, PLACE)
         return number, day[found[0]:found[0] + found[1]] if number == 0 else tuple(found)
 
 

@@ -16,8 +16,8 @@ extern "C" {
 }
 
 // Each slice and array passes its own pointer and its own length, which is all that the functions ask.
-fn check(day: &[u8], clearing: &[u8], room: &mut [u8]) -> (u8, [usize; 2]) {
-    let mut place = [0; 2];
+fn check(day: &[u8], clearing: &[u8], room: &mut [u8]) -> (u8, [usize; 3]) {
+    let mut place = [0; 3];
     let number = unsafe {
         ayinzhad_check(day.as_ptr(), day.len(), clearing.as_ptr(), clearing.len(), room.as_mut_ptr(), room.len(), place.as_mut_ptr(), place.len())
     };
@@ -36,7 +36,7 @@ fn main() {
     let Ok(clearing) = fs::read(Path::new(&folder).join("clearing.bin")) else { return println!("missing clearing") };
     let mut room = [0; LONGEST];
     let (number, place) = check(&day, &clearing, &mut room);
-    println!("verdict {} {} {}", number, place[0], place[1]);
+    println!("verdict {} {} {} {}", number, place[0], place[1], place[2]);
     if number == 0 {
         for (name, total) in TOTALS.iter().zip(totals(&day, &clearing).1) {
             println!("{name} {total}");

@@ -5,7 +5,7 @@ use mathlib.Core.List.{List, [], _∷_}
 use lib.IntN.{pos, negℤ}
 use Rattle.stages.specs.Stage.{place}
 use Rattle.whole.specs.Whole.{sum, at, above-zero}
-use Rattle.rows.specs.Rows.{rowOk}
+use Rattle.rows.specs.Rows.{fieldOk}
 use Rattle.market.specs.Market.{wholeSurplus, rent, shortfall, totals}
 use Rattle.market.specs.Market as market
 use Rattle.market.specs.Rules.{test}
@@ -71,6 +71,6 @@ Shown [] = Unit
 Shown (c ∷ cs) = (verdict (c .day) (c .clearing) 60 ≡ c .outcome) × Shown cs
 
 pub shown : Shown table
-unfolding dayStages clearingStages rowOk floorOf ceilingOf stepOf lineOf forwardOf backOf blockOf quantityOf volumeOf takenOf
+unfolding dayStages clearingStages fieldOk floorOf ceilingOf stepOf lineOf forwardOf backOf blockOf quantityOf volumeOf takenOf
     pricesOf flowOf test market.accepted wholeSurplus rent shortfall totals sum at above-zero
 shown = (refl, (refl, (refl, (refl, (refl, (refl, (refl, (refl, (refl, (refl, (refl, (refl, tt))))))))))))

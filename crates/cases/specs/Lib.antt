@@ -2,6 +2,8 @@
 pub mod Files
 -- The table of cases, and that each has its outcome.
 pub mod Cases
+-- The table of fields that a refusal names, and that each has its outcome.
+pub mod FieldCases
 -- Other choices than the accepted one, and that the shortfall is needed.
 pub mod Others
 -- The errors that this trade has made, with the rule paper's numbers.

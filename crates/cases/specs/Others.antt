@@ -7,7 +7,7 @@ use mathlib.Core.List.{List, [], _∷_}
 use lib.IntN.{ℤ, pos}
 use lib.ListN.{getD}
 use Rattle.whole.specs.Whole.{_≼_, sum, at, above-zero}
-use Rattle.rows.specs.Rows.{rowOk}
+use Rattle.rows.specs.Rows.{fieldOk}
 use Rattle.market.specs.Market.{Choice, Prices, orderValue, wholeSurplus, rent, shortfall, totals}
 use Rattle.market.specs.Market as market
 use Rattle.market.specs.Rules.{test}
@@ -53,7 +53,7 @@ abbrev anyPrices : Prices
 anyPrices z h = pos 0
 
 pub shown : Shown others
-unfolding dayStages clearingStages rowOk floorOf ceilingOf stepOf lineOf forwardOf backOf blockOf quantityOf volumeOf takenOf
+unfolding dayStages clearingStages fieldOk floorOf ceilingOf stepOf lineOf forwardOf backOf blockOf quantityOf volumeOf takenOf
     flowOf test market.accepted sum at
 shown = (
   (tests-allow _ anyPrices _ refl, refl),
@@ -68,7 +68,7 @@ shown = (
 
 -- clearing A, for day A with a block of 200 that is left out: accepted, with a shortfall of 200 times 500
 pub left-out : verdict (dayA 200 4500) (clearingA (pos 2000) 5000 500 900 400 200 700 0) 60 ≡ accepted 4700000 3200000 0 1500000 1100 100000
-unfolding dayStages clearingStages rowOk floorOf ceilingOf stepOf lineOf forwardOf backOf blockOf quantityOf volumeOf takenOf
+unfolding dayStages clearingStages fieldOk floorOf ceilingOf stepOf lineOf forwardOf backOf blockOf quantityOf volumeOf takenOf
     pricesOf flowOf test market.accepted wholeSurplus rent shortfall totals sum at above-zero
 left-out = refl
 
