@@ -4,3 +4,5 @@ pub mod Clearing
 pub mod Chain
 -- What two files that read without fault guarantee, and what the reader's two answers mean.
 pub mod Good
+-- Which row a refusal 7 names, as a sentence.
+pub mod Fields

@@ -4,3 +4,5 @@ pub mod Day
 pub mod Chain
 -- What a day file that reads without fault guarantees, and what the reader's two answers mean.
 pub mod Good
+-- Which field a refusal 3 names, as a sentence.
+pub mod Fields

@@ -3,10 +3,10 @@
 use Prim.Native.Nat.{ℕ, _<_, _≤_}
 use native.Mathlib.Omega.{arith}
 use mathlib.Core.Path.{_≡_, refl, subst, ap}
-use mathlib.Core.Logic.{_↔_, _⊎_, inl, inr, ⊎-elim}
+use mathlib.Core.Logic.{_↔_, _⊎_, inl, inr, ⊎-elim, Iff·trans, Iff·and}
 use mathlib.Core.List.{List, [], _∷_, _++_}
 use borrow.Author.Tests.{leb-false, lt-leb}
-use Rattle.stages.specs.Stage.{Stage, place, firstFault, answer, Breaks, BrokenAt, Holds, Means, means}
+use Rattle.stages.specs.Stage.{Stage, place, fieldPlace, firstFault, answer, Breaks, BrokenAt, Holds, Means, means}
 use Rattle.stages.specs.declared.Place.{Place}
 use Rattle.stages.specs.declared.Fault.{Fault}
 use Rattle.stages.specs.declared.Fault.the-variants.{Broken, Clean}
@@ -17,16 +17,18 @@ use Rattle.market.specs.declared.Rule.{Rule}
 use Rattle.market.specs.declared.Rule.the-variants.{Price, Capacity, Quantity, Balance, Step, Line, Block}
 use Rattle.day.specs.declared.Counts.{Counts}
 use Rattle.day.specs.Day.{counts, dayStages}
-use Rattle.day.specs.Good.{GoodDay}
+use Rattle.day.specs.Good.{GoodDay, day-clean}
+use Rattle.day.specs.Fields.{DayField, day-field}
 use Rattle.clearing.specs.Clearing.{clearingStages, fileStages}
 use Rattle.clearing.specs.Good.{GoodClearing, files-clean}
+use Rattle.clearing.specs.Fields.{ClearingField, clearing-field}
 use Rattle.verdict.specs.Verdict.{dayOf, pricesOf, choiceOf, totalsOf, statementLengthOf, roomStage, stages, verdict, numberOf}
 use Rattle.verdict.specs.declared.Outcome.the-variants.{Accepted, Refused}
 use Rattle.demands.specs.Sentences.{FirstBreach, TooShort}
 use Rattle.demands.specs.Laws.{refused-is-broken}
-use Rattle.stages.specs.Lists.{Each, Numbers, In, Ascending, broken-++, each-in, numbered, numbers-++, ascending-broken}
+use Rattle.stages.specs.Lists.{Each, Numbers, In, Ascending, broken-++, each-in, each-++, each-so, numbered, placed, in-first, in-second, ascending-broken}
 
--- ==== the numbers of the files
+-- ==== the numbers of the files, and their places
 
 abbrev FromTo : ℕ → ℕ → ℕ → Type 0
 FromTo least most k = (least ≤ k) × (k ≤ most)
@@ -35,24 +37,54 @@ FromTo least most k = (least ≤ k) × (k ≤ most)
 four : {A B C R : Type 0} → A → B → C → R → A × (B × (A × (C × R)))
 four a b c r = (a, (b, (a, (c, r))))
 
-day-numbers : (day : List ℕ) → Numbers (FromTo 1 8) (dayStages day)
+day-numbers : (day : List ℕ) → Numbers (FromTo 1 4) (dayStages day)
 unfolding dayStages
 day-numbers day = section (section (section (section (section ((omega arith, omega arith), tt)))))
   where
-    section : {R : Type 0} → R → FromTo 1 8 1 × (FromTo 1 8 2 × (FromTo 1 8 1 × (FromTo 1 8 3 × R)))
+    section : {R : Type 0} → R → FromTo 1 4 1 × (FromTo 1 4 2 × (FromTo 1 4 1 × (FromTo 1 4 3 × R)))
     section = four (omega arith, omega arith) (omega arith, omega arith) (omega arith, omega arith)
 
-clearing-numbers : (c : Counts) (clearing : List ℕ) → Numbers (FromTo 1 8) (clearingStages c clearing)
+clearing-numbers : (c : Counts) (clearing : List ℕ) → Numbers (FromTo 5 8) (clearingStages c clearing)
 unfolding clearingStages
 clearing-numbers c clearing = section (section (section (section ((omega arith, omega arith), tt))))
   where
-    section : {R : Type 0} → R → FromTo 1 8 5 × (FromTo 1 8 6 × (FromTo 1 8 5 × (FromTo 1 8 7 × R)))
+    section : {R : Type 0} → R → FromTo 5 8 5 × (FromTo 5 8 6 × (FromTo 5 8 5 × (FromTo 5 8 7 × R)))
     section = four (omega arith, omega arith) (omega arith, omega arith) (omega arith, omega arith)
+
+-- numbers of a smaller range are numbers of a larger one
+wider : (a b c d : ℕ) (ss : List Stage) → c ≤ a → b ≤ d → Numbers (FromTo a b) ss → Numbers (FromTo c d) ss
+wider a b c d ss l m = each-so _ _ ss (λ s h. (omega (arith, l, h .0), omega (arith, m, h .1)))
 
 -- the files are refused with a number from 1 to 8
 pub file-numbers : (day clearing : List ℕ) → Numbers (λ (k : ℕ). (1 ≤ k) × (k ≤ 8)) (fileStages day clearing)
 file-numbers day clearing =
-    numbers-++ (FromTo 1 8) (dayStages day) (clearingStages (counts day) clearing) (day-numbers day) (clearing-numbers (counts day) clearing)
+    each-++ (λ (s : Stage). FromTo 1 8 (s .number)) (dayStages day) (clearingStages (counts day) clearing)
+    (wider 1 4 1 8 (dayStages day) (omega arith) (omega arith) (day-numbers day))
+    (wider 5 8 1 8 (clearingStages (counts day) clearing) (omega arith) (omega arith) (clearing-numbers (counts day) clearing))
+
+-- a place names a field for the numbers 3 and 7 alone
+abbrev FieldOnly : ℕ → Place → Type 0
+FieldOnly k p = ¬ (k ≡ 3) → ¬ (k ≡ 7) → p .third ≡ 0
+
+abbrev FieldOnlyOf : Stage → Type 0
+FieldOnlyOf s = (z i : ℕ) → FieldOnly (s .number) (s .named z i)
+
+-- a section of the day file, and what comes after it; one of the clearing file
+in-day : (n : ℕ) {R : Type 0} → R →
+    ((z i : ℕ) → FieldOnly 1 (place n 0)) × (((z i : ℕ) → FieldOnly 2 (place n 0)) × (((z i : ℕ) → FieldOnly 1 (place n 0)) × (((z i : ℕ) → FieldOnly 3 (fieldPlace n z i)) × R)))
+in-day n = four (λ z i _ _. refl) (λ z i _ _. refl) (λ z i no _. absurd (no refl))
+
+in-clearing : (n : ℕ) {R : Type 0} → R →
+    ((z i : ℕ) → FieldOnly 5 (place n 0)) × (((z i : ℕ) → FieldOnly 6 (place n 0)) × (((z i : ℕ) → FieldOnly 5 (place n 0)) × (((z i : ℕ) → FieldOnly 7 (fieldPlace n z i)) × R)))
+in-clearing n = four (λ z i _ _. refl) (λ z i _ _. refl) (λ z i _ no. absurd (no refl))
+
+day-places : (day : List ℕ) → Each FieldOnlyOf (dayStages day)
+unfolding dayStages
+day-places day = in-day 1 (in-day 2 (in-day 3 (in-day 4 (in-day 5 (λ z i _ _. refl, tt)))))
+
+clearing-places : (c : Counts) (clearing : List ℕ) → Each FieldOnlyOf (clearingStages c clearing)
+unfolding clearingStages
+clearing-places c clearing = in-clearing 1 (in-clearing 2 (in-clearing 3 (in-clearing 4 (λ z i _ _. refl, tt))))
 
 -- ==== the rules
 
@@ -141,20 +173,19 @@ module _ (day clearing : List ℕ) (room : ℕ) where
     };
   })
 
+  -- what comes after the files has numbers from 11 on
+  after-numbers : Numbers (FromTo 11 18) afterFiles
+  after-numbers =
+      each-++ (λ (s : Stage). FromTo 11 18 (s .number)) ruled (roomStage day room ∷ [])
+      (wider 11 17 11 18 ruled (omega arith) (omega arith) (rule-numbers (dayOf day) (pricesOf day clearing) (choiceOf day clearing)))
+      ((omega arith, omega arith), tt)
+
   broken-number : (k : ℕ) (p : Place) → Means (stages day clearing room) (Broken k p) → FromTo 1 8 k ⊎ FromTo 11 18 k
-  broken-number k p m = ⊎-elim (λ b. inl (in-files b)) (λ b. inr (⊎-elim in-rules in-room (broken-++ ruled (roomStage day room ∷ []) k p .0 (b .1))))
+  broken-number k p m =
+      ⊎-elim
+      (λ b. inl (numbered (FromTo 1 8) (fileStages day clearing) (file-numbers day clearing) k p b))
+      (λ b. inr (numbered (FromTo 11 18) afterFiles after-numbers k p (b .1)))
       (broken-++ (fileStages day clearing) afterFiles k p .0 m)
-    where
-      in-files : Means (fileStages day clearing) (Broken k p) → FromTo 1 8 k
-      in-files b = numbered (FromTo 1 8) (fileStages day clearing) (file-numbers day clearing) k p b
-
-      in-rules : Means ruled (Broken k p) → FromTo 11 18 k
-      in-rules b =
-          let n = numbered (FromTo 11 17) ruled (rule-numbers (dayOf day) (pricesOf day clearing) (choiceOf day clearing)) k p b in
-          (n .0, omega (arith, n .1))
-
-      in-room : Means ruled Clean × Means (roomStage day room ∷ []) (Broken k p) → FromTo 11 18 k
-      in-room b = let e = room-number k p (b .1) in (omega (arith, e), omega (arith, e))
 
   -- A refusal has a number from 1 to 8, for the files, or from 11 to 18, for the rules and the room.
   pub refusal-number : (k : ℕ) (p : Place) → verdict day clearing room ≡ Refused k p → ((1 ≤ k) × (k ≤ 8)) ⊎ ((11 ≤ k) × (k ≤ 18))
@@ -175,15 +206,46 @@ module _ (day clearing : List ℕ) (room : ℕ) where
   past-files : (k : ℕ) (p : Place) → 8 < k →
       (verdict day clearing room ≡ Refused k p) ↔ ((GoodDay day × GoodClearing (counts day) clearing) × Means afterFiles (Broken k p))
   past-files k p l =
-      let r = refused-is-broken day clearing room k p in
-      let b = broken-++ (fileStages day clearing) afterFiles k p in
-      let g = files-clean day clearing in (
-        λ e. ⊎-elim
-            (λ m. absurd (omega (arith, l, numbered (FromTo 1 8) (fileStages day clearing) (file-numbers day clearing) k p m .1)))
-            (λ m. (g .0 (m .0), m .1))
-            (b .0 (r .0 e)),
-        λ m. r .1 (b .1 (inr (g .1 (m .0), m .1))),
-      )
+      let m = in-second (fileStages day clearing) afterFiles k p (FromTo 1 8) (λ h. omega (arith, l, h .1)) (file-numbers day clearing) in
+      let g = files-clean day clearing in
+      Iff·trans (refused-is-broken day clearing room k p) (λ b. (g .0 (m .0 b .0), m .0 b .1), λ b. m .1 (g .1 (b .0), b .1))
+
+  -- one up to 8: the fault is in the files
+  in-files : (k : ℕ) (p : Place) → k ≤ 8 → (verdict day clearing room ≡ Refused k p) ↔ Means (fileStages day clearing) (Broken k p)
+  in-files k p l =
+      Iff·trans (refused-is-broken day clearing room k p)
+      (in-first (fileStages day clearing) afterFiles k p (FromTo 11 18) (λ h. omega (arith, l, h .0)) after-numbers)
+
+  -- A refusal with the number 3: the place names the first field of the day file that fails its test.
+  pub refused-by-day-field : (section row field : ℕ) →
+      (verdict day clearing room ≡ Refused 3 (fieldPlace section row field)) ↔ DayField day section row field
+  refused-by-day-field section row field =
+      let p = fieldPlace section row field in
+      let c = clearingStages (counts day) clearing in
+      Iff·trans (in-files 3 p (omega arith))
+      (Iff·trans (in-first (dayStages day) c 3 p (FromTo 5 8) (λ h. omega (arith, h .0)) (clearing-numbers (counts day) clearing))
+      (day-field day section row field))
+
+  -- One with the number 7: the day file reads without fault, and the place names the first field of the clearing file that fails its test.
+  pub refused-by-clearing-field : (section row field : ℕ) →
+      (verdict day clearing room ≡ Refused 7 (fieldPlace section row field)) ↔ (GoodDay day × ClearingField (counts day) clearing section row field)
+  refused-by-clearing-field section row field =
+      let p = fieldPlace section row field in
+      let c = clearingStages (counts day) clearing in
+      Iff·trans (in-files 7 p (omega arith))
+      (Iff·trans (in-second (dayStages day) c 7 p (FromTo 1 4) (λ h. omega (arith, h .1)) (day-numbers day))
+      (Iff·and (day-clean day) (clearing-field (counts day) clearing section row field)))
+
+  -- Every other refusal has 0 for the field.
+  pub field-only : (k : ℕ) (p : Place) → verdict day clearing room ≡ Refused k p → ¬ (k ≡ 3) → ¬ (k ≡ 7) → p .third ≡ 0
+  field-only k p e =
+      placed FieldOnly (stages day clearing room)
+      (each-++ FieldOnlyOf (fileStages day clearing) afterFiles
+      (each-++ FieldOnlyOf (dayStages day) (clearingStages (counts day) clearing) (day-places day) (clearing-places (counts day) clearing))
+      (each-++ FieldOnlyOf ruled (roomStage day room ∷ [])
+      (each-rule (dayOf day) (pricesOf day clearing) (choiceOf day clearing) FieldOnlyOf (λ r z i _ _. refl))
+      (λ z i _ _. refl, tt)))
+      k p (refused-is-broken day clearing room k p .0 e)
 
   -- A refusal with a rule's number and a place: the files read, that rule is the first that is broken, and first there.
   pub refused-by-rule : (rule : Rule) (row col : ℕ) →

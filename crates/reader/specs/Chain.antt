@@ -1,18 +1,19 @@
 -- A section's answer taken apart. Assumes nothing.
 use Prim.Native.Nat.{ℕ}
 use mathlib.Core.Path.{_≡_, _∙_}
-use mathlib.Core.Logic.{_↔_}
+use mathlib.Core.Logic.{_↔_, inl, inr, ⊎-elim}
 use mathlib.Core.List.{List, _++_}
-use Rattle.stages.specs.Stage.{Stage, Means, clean-++, firstFault, answer}
+use Rattle.stages.specs.Stage.{Stage, fieldPlace, Means, clean-++, firstFault, answer}
+use Rattle.stages.specs.Lists.{broken-++}
 use Rattle.stages.specs.declared.Place.{Place}
-use Rattle.stages.specs.declared.Fault.the-variants.{Clean}
+use Rattle.stages.specs.declared.Fault.the-variants.{Broken, Clean}
 use Rattle.sections.specs.Section.{Numbers, count, after}
 use Rattle.sections.specs.Answer.{Read, reading-rows, section-read, then-refused, then-good}
-use Rattle.sections.specs.Good.{section-clean}
+use Rattle.sections.specs.Good.{OwnNumber, section-clean, section-bad}
 use Rattle.sections.specs.declared.Reading.the-variants.{Good, Refused}
 use Rattle.rows.specs.Rows.{rowSize, fieldCount, fieldOk}
 use Rattle.rows.specs.declared.Kind.{Kind}
-use Rattle.reader.specs.Reader.{fileSection, GoodRows, rowsAt, readingAt}
+use Rattle.reader.specs.Reader.{fileSection, GoodRows, BadFrom, rowsAt, readingAt}
 
 module _ (numbers : Numbers) (number : ℕ) (kind : Kind) (least most periods zones : ℕ) (part : List ℕ) where
   -- a section that reads without fault has its count of rows, and they lie within the part
@@ -28,6 +29,19 @@ module _ (numbers : Numbers) (number : ℕ) (kind : Kind) (least most periods zo
       let c = clean-++ (fileSection numbers number kind least most periods zones part) rest in
       let g = section-clean numbers number least most (rowSize kind periods) (fieldCount kind periods) (fieldOk kind periods zones part) part in
       (λ m. (g .0 (c .0 m .0), c .0 m .1), λ m. c .1 (g .1 (m .0), m .1))
+
+  -- a stage is broken by a field, from this section on
+  pub then-bad : OwnNumber numbers → (rest : List Stage) (s row field : ℕ) {Later : Type 0} →
+      Means rest (Broken (numbers .bad) (fieldPlace s row field)) ↔ Later →
+      Means (fileSection numbers number kind least most periods zones part ++ rest) (Broken (numbers .bad) (fieldPlace s row field))
+      ↔ BadFrom s row field number kind least most periods zones part Later
+  then-bad own rest s row field later =
+      let c = broken-++ (fileSection numbers number kind least most periods zones part) rest (numbers .bad) (fieldPlace s row field) in
+      let g = section-clean numbers number least most (rowSize kind periods) (fieldCount kind periods) (fieldOk kind periods zones part) part in
+      let b = section-bad numbers number least most (rowSize kind periods) (fieldCount kind periods) (fieldOk kind periods zones part) part own s row field in (
+        λ m. ⊎-elim (λ x. inl (b .0 x)) (λ y. inr (g .0 (y .0), later .0 (y .1))) (c .0 m),
+        λ m. c .1 (⊎-elim (λ x. inl (b .1 x)) (λ y. inr (g .1 (y .0), later .1 (y .1))) m),
+      )
 
   -- `good` and `rest` are what comes after the section: the answer where all is good, and the stages, by what is left of the file and the
   -- section's own count

@@ -1,9 +1,11 @@
 -- A section of either file, by the kind of its rows. Assumes nothing.
 use Prim.Native.Nat.{ℕ}
+use mathlib.Core.Path.{_≡_}
+use mathlib.Core.Logic.{_⊎_}
 use mathlib.Core.List.{List}
 use Rattle.stages.specs.Stage.{Stage}
 use Rattle.sections.specs.Section.{Numbers, section}
-use Rattle.sections.specs.Good.{GoodSection}
+use Rattle.sections.specs.Good.{GoodSection, FirstBad}
 use Rattle.sections.specs.Answer.{readingOf, sectionOf}
 use Rattle.sections.specs.declared.Section.{Section}
 use Rattle.sections.specs.declared.Reading.{Reading}
@@ -18,6 +20,18 @@ fileSection numbers number kind least most periods zones part =
 -- it reads without fault
 abbrev pub GoodRows : Kind → ℕ → ℕ → ℕ → ℕ → List ℕ → Type 0
 GoodRows kind least most periods zones part = GoodSection least most (rowSize kind periods) (fieldCount kind periods) (fieldOk kind periods zones part) part
+
+-- the field is the first that fails its test, in the first row that has one
+abbrev pub BadField : Kind → ℕ → ℕ → ℕ → ℕ → List ℕ → ℕ → ℕ → Type 0
+BadField kind least most periods zones part =
+    FirstBad least most (rowSize kind periods) (fieldCount kind periods) (fieldOk kind periods zones part) part
+
+-- one section after the other: the first such field is in this section, which has the number s, or this one reads without fault and it is
+-- in a later one
+module _ (s row field : ℕ) where
+  abbrev pub BadFrom : ℕ → Kind → ℕ → ℕ → ℕ → ℕ → List ℕ → Type 0 → Type 0
+  BadFrom number kind least most periods zones part later =
+      ((number ≡ s) × BadField kind least most periods zones part row field) ⊎ (GoodRows kind least most periods zones part × later)
 
 -- its reader's answer, and the same with the number and the place of a fault
 abbrev pub rowsAt : Kind → ℕ → ℕ → ℕ → ℕ → List ℕ → Section

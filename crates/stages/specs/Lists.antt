@@ -60,7 +60,11 @@ each-in P [] h i = absurd i
 each-in P (t ∷ ss) h (inl e) = subst P e (h .0)
 each-in P (t ∷ ss) h (inr i) = each-in P ss (h .1) i
 
-each-so : (P Q : Stage → Type 0) (ss : List Stage) → ((s : Stage) → P s → Q s) → Each P ss → Each Q ss
+pub each-++ : (P : Stage → Type 0) (xs ys : List Stage) → Each P xs → Each P ys → Each P (xs ++ ys)
+each-++ P [] ys g h = h
+each-++ P (s ∷ xs) ys g h = (g .0, each-++ P xs ys (g .1) h)
+
+pub each-so : (P Q : Stage → Type 0) (ss : List Stage) → ((s : Stage) → P s → Q s) → Each P ss → Each Q ss
 each-so P Q [] f h = tt
 each-so P Q (s ∷ ss) f h = (f s (h .0), each-so P Q ss f (h .1))
 
@@ -71,9 +75,24 @@ numbered P [] h k p m = absurd m
 numbered P (s ∷ ss) h k p (inl b) = subst P (b .number) (h .0)
 numbered P (s ∷ ss) h k p (inr m) = numbered P ss (h .1) k p (m .1)
 
-pub numbers-++ : (P : ℕ → Type 0) (xs ys : List Stage) → Numbers P xs → Numbers P ys → Numbers P (xs ++ ys)
-numbers-++ P [] ys g h = h
-numbers-++ P (s ∷ xs) ys g h = (g .0, numbers-++ P xs ys (g .1) h)
+-- and with one of its places
+pub placed : (P : ℕ → Place → Type 0) (ss : List Stage) → Each (λ (s : Stage). (z i : ℕ) → P (s .number) (s .named z i)) ss →
+    (k : ℕ) (p : Place) → Means ss (Broken k p) → P k p
+placed P [] h k p m = absurd m
+placed P (s ∷ ss) h k p (inl b) = subst (P k) (b .named) (subst (λ (n : ℕ). P n (s .named (b .row) (b .col))) (b .number) (h .0 (b .row) (b .col)))
+placed P (s ∷ ss) h k p (inr m) = placed P ss (h .1) k p (m .1)
+
+-- of two lists, a fault with a number that one does not have is the other's
+module _ (xs ys : List Stage) (k : ℕ) (p : Place) (P : ℕ → Type 0) (other : ¬ P k) where
+  pub in-first : Numbers P ys → Means (xs ++ ys) (Broken k p) ↔ Means xs (Broken k p)
+  in-first n =
+      let b = broken-++ xs ys k p in
+      (λ m. ⊎-elim (λ x. x) (λ y. absurd (other (numbered P ys n k p (y .1)))) (b .0 m), λ m. b .1 (inl m))
+
+  pub in-second : Numbers P xs → Means (xs ++ ys) (Broken k p) ↔ (Means xs Clean × Means ys (Broken k p))
+  in-second n =
+      let b = broken-++ xs ys k p in
+      (λ m. ⊎-elim (λ x. absurd (other (numbered P xs n k p x))) (λ y. y) (b .0 m), λ m. b .1 (inr m))
 
 -- ---- numbers that ascend
 
