@@ -9,7 +9,7 @@ use mathlib.Core.List.{List, _++_}
 use lib.IntN.{pos, _+ℤ_}
 use lib.ListN.{length, drop}
 use Rattle.whole.specs.Whole.{_≼_}
-use Rattle.stages.specs.Stage.{Means, place}
+use Rattle.stages.specs.Stage.{Means, place, fieldPlace}
 use Rattle.stages.specs.declared.Place.{Place}
 use Rattle.stages.specs.declared.Fault.the-variants.{Broken}
 use Rattle.market.specs.Market.{Choice, orderValue, totals}
@@ -22,6 +22,8 @@ use Rattle.market.specs.declared.Rule.{Rule}
 use Rattle.market.specs.declared.Totals.{Totals}
 use Rattle.day.specs.Day.{counts}
 use Rattle.day.specs.Good.{GoodDay, in-limits, prices-most}
+use Rattle.day.specs.Fields.{DayField}
+use Rattle.clearing.specs.Fields.{ClearingField}
 use Rattle.book.specs.Of.{OfFiles, of-files}
 use Rattle.book.specs.Ranges.{placed}
 use Rattle.verdict.specs.Verdict.{dayOf, pricesOf, choiceOf, totalsOf, statementOf, statementLengthOf}
@@ -47,10 +49,15 @@ module _ {day clearing before : List ℕ} {outcome : Outcome} {after : List ℕ}
   pub refusal-gives-zeros : {k : ℕ} {p : Place} → outcome ≡ Refused k p → givenTotals outcome ≡ zeros
   refusal-gives-zeros e = ap givenTotals e
 
-  -- its number is from 1 to 8, for the files, or from 11 to 18, for the rules and the room; the number 0 is given just for an acceptance
+  -- its number is from 1 to 8, for the files, or from 11 to 18, for the rules and the room
   pub refusal-number : (k : ℕ) (p : Place) → outcome ≡ Refused k p → ((1 ≤ k) × (k ≤ 8)) ⊎ ((11 ≤ k) × (k ≤ 18))
   refusal-number k p e = refusals.refusal-number day clearing (length before) k p (sym (c .said) ∙ e)
 
+  -- its place names a field for the numbers 3 and 7 alone
+  pub refusal-field : (k : ℕ) (p : Place) → outcome ≡ Refused k p → ¬ (k ≡ 3) → ¬ (k ≡ 7) → p .third ≡ 0
+  refusal-field k p e = refusals.field-only day clearing (length before) k p (sym (c .said) ∙ e)
+
+  -- the number 0 is given just for an acceptance
   pub zero-is-accepted : numberOf outcome ≡ 0 → outcome ≡ Accepted (totalsOf day clearing)
   zero-is-accepted e = c .said ∙ refusals.zero-is-accepted day clearing (length before) (ap numberOf (sym (c .said)) ∙ e)
 
@@ -71,6 +78,17 @@ module _ {day clearing before : List ℕ} {outcome : Outcome} {after : List ℕ}
   pub refused-by-rule : (rule : Rule) (row col : ℕ) →
       (outcome ≡ Refused (number rule) (place row col)) ↔ FirstBreach day clearing rule row col
   refused-by-rule rule row col = said-of (c .said) (refusals.refused-by-rule day clearing (length before) rule row col)
+
+  -- by a field of the day file: its test fails, and those of the fields before it in its row, of the rows before it and of the sections
+  -- before its own hold
+  pub refused-by-day-field : (section row field : ℕ) → (outcome ≡ Refused 3 (fieldPlace section row field)) ↔ DayField day section row field
+  refused-by-day-field section row field = said-of (c .said) (refusals.refused-by-day-field day clearing (length before) section row field)
+
+  -- by one of the clearing file, where the day file reads
+  pub refused-by-clearing-field : (section row field : ℕ) →
+      (outcome ≡ Refused 7 (fieldPlace section row field)) ↔ (GoodDay day × ClearingField (counts day) clearing section row field)
+  refused-by-clearing-field section row field =
+      said-of (c .said) (refusals.refused-by-clearing-field day clearing (length before) section row field)
 
   -- by the room: the files read, every rule holds, and the room is shorter than the statement
   pub refused-by-room : (outcome ≡ Refused 18 (place 0 0)) ↔ TooShort day clearing (length before)
