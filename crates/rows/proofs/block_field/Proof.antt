@@ -42,7 +42,7 @@ head-first : (c : tie.After-block-field) → let s = c .before .before .before .
 head-first c = let price = c .before .i32-at in cc (toZ-ofZ w64 (price .result) (record { sfits = price .ok }))
 
 returns : tie.Need-returns
-returns c = 
+returns c =
     let s = c .before .before .before .before .before .before .before in
     block-head (s .args .periods) (s .args .zones) (now (s .args .part)) (s .args .at) (head-first (c .before)) (c .if1 .taken)
 
@@ -56,7 +56,7 @@ add-result : tie.Need-add-result
 add-result c = search needs
 
 returns-2 : tie.Need-returns-2
-returns-2 c = 
+returns-2 c =
     let s = c .before .before .before .before .before .before .before .before .before in
     block-quantity (s .args .periods) (s .args .zones) (now (s .args .part)) (s .args .at) (head-first (c .before .before .before)) (c .before .before .if1 .left)
     (c .before .first-above .ensures) (c .if2 .taken)
@@ -65,7 +65,7 @@ add-result-2 : tie.Need-add-result-2
 add-result-2 c = search needs
 
 returns-3 : tie.Need-returns-3
-returns-3 c = 
+returns-3 c =
     let s = c .before .before .before .before .before .before .before .before .before in
     block-empty (s .args .periods) (s .args .zones) (now (s .args .part)) (s .args .at) (head-first (c .before .before .before)) (c .before .before .if1 .left)
     (c .before .first-above .ensures) (c .if2 .left) (s .pre .1 .1)

@@ -30,7 +30,7 @@ ends-first : (c : tie.After-ends-field) → let s = c .before .before .before .b
 ends-first c = cc
 
 returns : tie.Need-returns
-returns c = 
+returns c =
     let s = c .before .before .before .before .before in
     line-end (s .args .periods) (s .args .zones) (now (s .args .part)) (s .args .at) (s .pre .1 .1) (ends-first (c .before)) (c .if1 .taken)
 
@@ -44,12 +44,12 @@ first-above-requires : tie.Need-first-above-requires
 first-above-requires c κs = search needs
 
 add-result : tie.Need-add-result
-add-result c = 
+add-result c =
     let a = c .before .before .before .before .before .before .args in
     omega (arith, c .first-above .ensures, first-most (2 * a .periods) (λ k. isVolume (capacity (now (a .part)) (a .at) k)))
 
 returns-2 : tie.Need-returns-2
-returns-2 c = 
+returns-2 c =
     let s = c .before .before .before .before .before .before in
     line-capacity (s .args .periods) (s .args .zones) (now (s .args .part)) (s .args .at) (s .pre .1 .1) (ends-first (c .before .before)) (c .before .if1 .left)
     (c .first-above .ensures)

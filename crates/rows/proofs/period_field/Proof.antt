@@ -23,12 +23,12 @@ period-field-requires : tie.Need-period-field-requires
 period-field-requires c κs = search needs
 
 returns : tie.Need-returns
-returns c = 
+returns c =
     let s = c .before .before .before .before in
     let floor = c .before .before .i32-at in
     let ceiling = c .before .i32-at2 in
     let e : c .period-field .result ≡ firstOr 2 (periodFields (now (s .args .part)) (s .args .at)) =
-        cc (toZ-ofZ w64 (floor .result) (record { sfits = floor .ok }), toZ-ofZ w64 (ceiling .result) (record { sfits = ceiling .ok })) in
+    cc (toZ-ofZ w64 (floor .result) (record { sfits = floor .ok }), toZ-ofZ w64 (ceiling .result) (record { sfits = ceiling .ok })) in
     ap At e ∙ first-is 2 (periodFields (now (s .args .part)) (s .args .at)) (s .pre .1)
 
 pub period-field-spec : {M : Type 1} → statement M

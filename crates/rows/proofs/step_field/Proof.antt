@@ -47,7 +47,7 @@ step-field-requires : tie.Need-step-field-requires
 step-field-requires c κs = search needs
 
 returns : tie.Need-returns
-returns c = 
+returns c =
     let s = c .before .before .before .before .before .before .before .before in
     let fields = stepFields (s .args .periods) (s .args .zones) (now (s .args .part)) (s .args .at) in
     let price = c .before .before .i32-at in

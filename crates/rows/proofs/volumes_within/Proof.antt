@@ -12,7 +12,7 @@ first-above-requires : tie.Need-first-above-requires
 first-above-requires c κs = search needs
 
 returns : tie.Need-returns
-returns c = 
+returns c =
     let a = c .before .before .args in
     rw (c .first-above .ensures) (all-pass (a .n) (λ k. leb (u32At (now (a .part)) (a .at + 4 * k)) (a .most)))
 
