@@ -14,14 +14,6 @@ use Rattle.stages.specs.declared.Found.the-variants.{At, Nothing}
 
 -- ---- what is meant
 
--- all tests of a list hold
-abbrev pub allFrom : Bool → List Bool → Bool
-allFrom b [] = b
-allFrom b (c ∷ cs) = allFrom (b && c) cs
-
-abbrev pub all : List Bool → Bool
-all = allFrom true
-
 -- the test of the field f, from 0 on: the tests of the first fields, and then those of the fields behind them
 abbrev pub behind : List Bool → (ℕ → Bool) → ℕ → Bool
 behind [] t f = t f

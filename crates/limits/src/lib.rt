@@ -1,10 +1,11 @@
-// The limits, and the rules of the day file's rows over the values of their fields.
+// The limits, and the rules of the day file's rows over the values of their fields: whether a row obeys its rule, in one answer, and for a row
+// that does not which of its fields is the first to blame.
 ghost use mathlib.Core.Path.{_≡_};
 ghost use mathlib.Core.Bool.{_&&_};
 ghost use lib.Signed.{leZ};
 ghost use lib.ListN.{length};
-ghost use Rattle.stages.specs.First.{firstOr};
-ghost use Rattle.limits.specs.Fields.{all, only};
+ghost use Rattle.stages.specs.First.{every, firstOr};
+ghost use Rattle.limits.specs.Fields.{only};
 ghost use Rattle.limits.specs.Rules.{periodRule, zoneRule, endsRule, stepRule, blockRule};
 
 pub const PRICE_LEAST: i64 = -1000000;
@@ -33,21 +34,23 @@ pub fn between(x: i64, least: i64, most: i64) -> bool
     (least <= x) & (x <= most)
 }
 
+// ---- whether each field passes its test
+
 pub fn period_rule(floor: i64, ceiling: i64) -> bool
-    ensures { λ r. ⌜ r ≡ all (periodRule floor ceiling) ⌝ }
+    ensures { λ r. ⌜ r ≡ every 2 (only (periodRule floor ceiling)) ⌝ }
 {
     ((PRICE_LEAST <= floor) & (floor <= PRICE_MOST))
         & (((PRICE_LEAST <= ceiling) & (ceiling <= PRICE_MOST)) & (floor <= ceiling))
 }
 
 pub fn zone_rule(before: usize, code: usize) -> bool
-    ensures { λ r. ⌜ r ≡ all (zoneRule before code) ⌝ }
+    ensures { λ r. ⌜ r ≡ every 1 (only (zoneRule before code)) ⌝ }
 {
     (1 <= code) & (before < code)
 }
 
 pub fn ends_rule(zones: usize, from: usize, to: usize) -> bool
-    ensures { λ r. ⌜ r ≡ all (endsRule zones from to) ⌝ }
+    ensures { λ r. ⌜ r ≡ every 2 (only (endsRule zones from to)) ⌝ }
 {
     (from < zones) & ((to < zones) & (to != from))
 }
@@ -62,7 +65,7 @@ pub fn step_rule(
     price: i64,
     quantity: u32,
 ) -> bool
-    ensures { λ r. ⌜ r ≡ all (stepRule zones periods zone period side spare price quantity) ⌝ }
+    ensures { λ r. ⌜ r ≡ every 6 (only (stepRule zones periods zone period side spare price quantity)) ⌝ }
 {
     (zone < zones)
         & (period < periods)
@@ -73,12 +76,12 @@ pub fn step_rule(
 }
 
 pub fn block_rule(zones: usize, zone: usize, side: usize, spare: usize, price: i64) -> bool
-    ensures { λ r. ⌜ r ≡ all (blockRule zones zone side spare price) ⌝ }
+    ensures { λ r. ⌜ r ≡ every 4 (only (blockRule zones zone side spare price)) ⌝ }
 {
     (zone < zones) & (side <= 1) & (spare == 0) & ((PRICE_LEAST <= price) & (price <= PRICE_MOST))
 }
 
-// ---- the number of the first field that fails its test, and of fields where none does
+// ---- the number of the first field that fails its test, and how many fields there are where none does
 
 fn first_failing(tests: &[bool]) -> usize
     ensures { λ r. ⌜ r ≡ firstOr (length (now (tests .entry))) (only (now (tests .entry))) ⌝ }

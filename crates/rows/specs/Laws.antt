@@ -7,7 +7,7 @@ use mathlib.Core.List.{List}
 use lib.ListN.{length}
 use Rattle.stages.specs.First.{every, firstBad, firstOr, first-is}
 use Rattle.stages.specs.declared.Found.the-variants.{At}
-use Rattle.limits.specs.Fields.{all, only, first-in-front, first-counts-on, every-behind, every-with-last, fails-by-itself, fails-at-last}
+use Rattle.limits.specs.Fields.{only, first-in-front, first-counts-on, every-behind, every-with-last, fails-by-itself, fails-at-last}
 use Rattle.limits.specs.Rules.{endsRule, blockRule}
 use Rattle.limits.specs.Limits.{isVolume}
 use Rattle.rows.specs.Rows.{rowSize, rowStart, fieldCount, rowFields, fieldOk, from, to, capacity, lineFields}
@@ -23,7 +23,7 @@ module _ (periods zones : ℕ) (part : List ℕ) (at : ℕ) where
   abbrev capacityOk : ℕ → Bool
   capacityOk k = isVolume (capacity part at k)
 
-  pub line-split : every (2 + 2 * periods) (lineFields zones part at) ≡ (all ends && every (2 * periods) capacityOk)
+  pub line-split : every (2 + 2 * periods) (lineFields zones part at) ≡ (every 2 (only ends) && every (2 * periods) capacityOk)
   line-split = every-behind ends (2 * periods) capacityOk
 
   -- the first field that fails: an end, or a capacity
@@ -52,7 +52,7 @@ module _ (periods zones : ℕ) (part : List ℕ) (at : ℕ) where
   last-field : 4 + periods ≡ suc (3 + periods)
   last-field = omega arith
 
-  pub block-split : every (4 + periods) (blockFields periods zones part at) ≡ ((all head && every periods quantityOk) && some)
+  pub block-split : every (4 + periods) (blockFields periods zones part at) ≡ ((every 4 (only head) && every periods quantityOk) && some)
   block-split = rw (every-with-last (3 + periods) some (blockByItself zones part at) last-field, every-behind head periods quantityOk)
 
   -- the first field that fails: one of the first, or a quantity, or the last where there is no quantity

@@ -33,14 +33,6 @@ abbrev pub firstBad : ℕ → (ℕ → Bool) → Found
 firstBad zero t = Nothing
 firstBad (suc n) t = orElse (firstBad n t) (badAt (t n) n)
 
--- the same as a number: n where it fails nowhere
-abbrev pub before : ℕ → Found → ℕ
-before n (At k) = k
-before n Nothing = n
-
-abbrev pub firstOr : ℕ → (ℕ → Bool) → ℕ
-firstOr n t = before n (firstBad n t)
-
 -- what an answer says. Nothing: the test holds at each row below n. At k: it fails at k, which is below n, and holds at each row before
 abbrev pub Says : ℕ → (ℕ → Bool) → Found → Type 0
 Says n t Nothing = (j : ℕ) → j < n → t j ≡ true
@@ -146,7 +138,14 @@ every-none n t e = by (firstBad n t) (rw (every-first n t) at e)
     by (At k) z = apart z refl
     by Nothing z = refl
 
--- ---- the same as a number
+-- ---- the first row that fails, as a number: n where none does
+
+abbrev pub before : ℕ → Found → ℕ
+before n (At k) = k
+before n Nothing = n
+
+abbrev pub firstOr : ℕ → (ℕ → Bool) → ℕ
+firstOr n t = before n (firstBad n t)
 
 -- where not every row passes, it is a row
 pub first-is : (n : ℕ) (t : ℕ → Bool) → every n t ≡ false → At (firstOr n t) ≡ firstBad n t
