@@ -1,5 +1,5 @@
 -- A row's rule is a test for each of its fields, in row order. Assumes nothing.
-use Prim.Native.Nat.{ℕ, zero, suc, _+_, _<_, _≤_}
+use Prim.Native.Nat.{ℕ, zero, suc, _+_, _<_}
 use native.Mathlib.Nat.{zero-add, suc-add, le-of-suc-le-suc, not-suc-le-zero}
 use native.Mathlib.Omega.{arith}
 use mathlib.Core.Path.{_≡_, refl}
@@ -8,7 +8,7 @@ use mathlib.Core.List.{List, [], _∷_}
 use lib.Dec.{eqb}
 use lib.ListN.{length, getD}
 use borrow.Author.Tests.{eq-eqb, ne-eqb}
-use Rattle.stages.specs.First.{every, orElse, badAt, firstBad, before, firstOr, foundNothing, apart, every-first, none-is, some-is, same-first}
+use Rattle.stages.specs.First.{every, orElse, badAt, firstBad, foundNothing, every-first, same-first}
 use Rattle.stages.specs.declared.Found.{Found}
 use Rattle.stages.specs.declared.Found.the-variants.{At, Nothing}
 
@@ -41,12 +41,12 @@ only-at (b ∷ bs) {f = suc f} l = only-at bs (le-of-suc-le-suc l)
 
 -- ---- the first field that fails, of some fields and of those behind them
 
--- one field on
+-- so many fields on
 abbrev next : Found → Found
 next (At j) = At (suc j)
 next Nothing = Nothing
 
-abbrev countedOn : ℕ → Found → Found
+abbrev pub countedOn : ℕ → Found → Found
 countedOn zero f = f
 countedOn (suc k) f = next (countedOn k f)
 
@@ -65,7 +65,7 @@ first-front (suc n) t = rw (first-front n t) (by (t 0) (firstBad n (λ f. t (suc
     by true Nothing false = refl
     by false f c = refl
 
-first-behind : (bs : List Bool) (n : ℕ) (t : ℕ → Bool) →
+pub first-behind : (bs : List Bool) (n : ℕ) (t : ℕ → Bool) →
     firstBad (length bs + n) (behind bs t) ≡ orElse (firstBad (length bs) (only bs)) (countedOn (length bs) (firstBad n t))
 first-behind [] n t = rw (zero-add n)
 first-behind (b ∷ bs) n t =
@@ -77,27 +77,15 @@ first-behind (b ∷ bs) n t =
     by true Nothing g = refl
     by false f g = refl
 
-counted : (k j : ℕ) → countedOn k (At j) ≡ At (k + j)
+pub counted : (k j : ℕ) → countedOn k (At j) ≡ At (k + j)
 counted zero j = rw (zero-add j)
 counted (suc k) j = rw (counted k j, suc-add k j)
 
-counted-none : (k : ℕ) → countedOn k Nothing ≡ Nothing
+pub counted-none : (k : ℕ) → countedOn k Nothing ≡ Nothing
 counted-none zero = refl
 counted-none (suc k) = rw (counted-none k)
 
 module _ (bs : List Bool) (n : ℕ) (t : ℕ → Bool) where
-  -- it is one of the first fields
-  pub first-in-front : firstOr (length bs) (only bs) < length bs → firstOr (length bs) (only bs) ≡ firstOr (length bs + n) (behind bs t)
-  first-in-front l = rw (first-behind bs n t, ← some-is (length bs) (only bs) l)
-
-  -- or one of those behind them, which count on
-  pub first-counts-on : length bs ≤ firstOr (length bs) (only bs) → length bs + firstOr n t ≡ firstOr (length bs + n) (behind bs t)
-  first-counts-on l = rw (first-behind bs n t, none-is (length bs) (only bs) l) (by (firstBad n t))
-    where
-      by : (f : Found) → length bs + before n f ≡ before (length bs + n) (countedOn (length bs) f)
-      by (At j) = rw (counted (length bs) j)
-      by Nothing = rw (counted-none (length bs))
-
   pub every-behind : every (length bs + n) (behind bs t) ≡ (every (length bs) (only bs) && every n t)
   every-behind =
       rw (every-first (length bs + n) (behind bs t), first-behind bs n t, every-first (length bs) (only bs), every-first n t)
@@ -138,15 +126,3 @@ module _ (last : ℕ) (e : Bool) (t : ℕ → Bool) where
         by (At k) e = refl
         by Nothing true = refl
         by Nothing false = refl
-
-    -- a field that fails by itself comes first
-    pub fails-by-itself : firstOr m t < m → At (firstOr m t) ≡ firstBad m (withLast last e t)
-    fails-by-itself l = rw (first-with-last, ← some-is m t l)
-
-    -- else it is the last
-    pub fails-at-last : every m (withLast last e t) ≡ false → m ≤ firstOr m t → At last ≡ firstBad m (withLast last e t)
-    fails-at-last bad l = rw (first-with-last, none-is m t l) (by e (rw (every-first m (withLast last e t), first-with-last, none-is m t l) at bad))
-      where
-        by : (e : Bool) → foundNothing (badAt e last) ≡ false → At last ≡ badAt e last
-        by true z = apart refl z
-        by false z = refl

@@ -1,10 +1,11 @@
-// The limits, and the rules of the day file's rows over the values of their fields: whether a row obeys its rule, in one answer, and for a row
-// that does not which of its fields is the first to blame.
+// The limits, and the rules of the day file's rows over the values of their fields: which field is the first to fail its test.
+use stages::Found;
 ghost use mathlib.Core.Path.{_≡_};
 ghost use mathlib.Core.Bool.{_&&_};
+ghost use mathlib.Core.List.{[], _∷_};
 ghost use lib.Signed.{leZ};
 ghost use lib.ListN.{length};
-ghost use Rattle.stages.specs.First.{every, firstOr};
+ghost use Rattle.stages.specs.First.{firstBad};
 ghost use Rattle.limits.specs.Fields.{only};
 ghost use Rattle.limits.specs.Rules.{periodRule, zoneRule, endsRule, stepRule, blockRule};
 
@@ -34,68 +35,28 @@ pub fn between(x: i64, least: i64, most: i64) -> bool
     (least <= x) & (x <= most)
 }
 
-// ---- whether each field passes its test
+// ---- the first field that fails its test
 
-pub fn period_rule(floor: i64, ceiling: i64) -> bool
-    ensures { λ r. ⌜ r ≡ every 2 (only (periodRule floor ceiling)) ⌝ }
-{
-    ((PRICE_LEAST <= floor) & (floor <= PRICE_MOST))
-        & (((PRICE_LEAST <= ceiling) & (ceiling <= PRICE_MOST)) & (floor <= ceiling))
-}
-
-pub fn zone_rule(before: usize, code: usize) -> bool
-    ensures { λ r. ⌜ r ≡ every 1 (only (zoneRule before code)) ⌝ }
-{
-    (1 <= code) & (before < code)
-}
-
-pub fn ends_rule(zones: usize, from: usize, to: usize) -> bool
-    ensures { λ r. ⌜ r ≡ every 2 (only (endsRule zones from to)) ⌝ }
-{
-    (from < zones) & ((to < zones) & (to != from))
-}
-
-pub fn step_rule(
-    zones: usize,
-    periods: usize,
-    zone: usize,
-    period: usize,
-    side: usize,
-    spare: usize,
-    price: i64,
-    quantity: u32,
-) -> bool
-    ensures { λ r. ⌜ r ≡ every 6 (only (stepRule zones periods zone period side spare price quantity)) ⌝ }
-{
-    (zone < zones)
-        & (period < periods)
-        & (side <= 1)
-        & (spare == 0)
-        & ((PRICE_LEAST <= price) & (price <= PRICE_MOST))
-        & ((1 <= quantity) & (quantity <= VOLUME_MOST))
-}
-
-pub fn block_rule(zones: usize, zone: usize, side: usize, spare: usize, price: i64) -> bool
-    ensures { λ r. ⌜ r ≡ every 4 (only (blockRule zones zone side spare price)) ⌝ }
-{
-    (zone < zones) & (side <= 1) & (spare == 0) & ((PRICE_LEAST <= price) & (price <= PRICE_MOST))
-}
-
-// ---- the number of the first field that fails its test, and how many fields there are where none does
-
-fn first_failing(tests: &[bool]) -> usize
-    ensures { λ r. ⌜ r ≡ firstOr (length (now (tests .entry))) (only (now (tests .entry))) ⌝ }
+fn first_failing(tests: &[bool]) -> Found
+    ensures { λ r. ⌜ r ≡ firstBad (length (now (tests .entry))) (only (now (tests .entry))) ⌝ }
 {
     for f in 0..tests.len() {
         if !tests[f] {
-            return f;
+            return Found::At(f);
         }
     }
-    tests.len()
+    Found::Nothing
 }
 
-pub fn period_field(floor: i64, ceiling: i64) -> usize
-    ensures { λ r. ⌜ r ≡ firstOr 2 (only (periodRule floor ceiling)) ⌝ }
+pub fn one_field(ok: bool) -> Found
+    ensures { λ r. ⌜ r ≡ firstBad 1 (only (ok ∷ [])) ⌝ }
+{
+    let tests = [ok];
+    first_failing(&tests)
+}
+
+pub fn period_field(floor: i64, ceiling: i64) -> Found
+    ensures { λ r. ⌜ r ≡ firstBad 2 (only (periodRule floor ceiling)) ⌝ }
 {
     let tests = [
         (PRICE_LEAST <= floor) & (floor <= PRICE_MOST),
@@ -104,8 +65,15 @@ pub fn period_field(floor: i64, ceiling: i64) -> usize
     first_failing(&tests)
 }
 
-pub fn ends_field(zones: usize, from: usize, to: usize) -> usize
-    ensures { λ r. ⌜ r ≡ firstOr 2 (only (endsRule zones from to)) ⌝ }
+pub fn zone_field(before: usize, code: usize) -> Found
+    ensures { λ r. ⌜ r ≡ firstBad 1 (only (zoneRule before code)) ⌝ }
+{
+    let tests = [(1 <= code) & (before < code)];
+    first_failing(&tests)
+}
+
+pub fn ends_field(zones: usize, from: usize, to: usize) -> Found
+    ensures { λ r. ⌜ r ≡ firstBad 2 (only (endsRule zones from to)) ⌝ }
 {
     let tests = [from < zones, (to < zones) & (to != from)];
     first_failing(&tests)
@@ -120,8 +88,8 @@ pub fn step_field(
     spare: usize,
     price: i64,
     quantity: u32,
-) -> usize
-    ensures { λ r. ⌜ r ≡ firstOr 6 (only (stepRule zones periods zone period side spare price quantity)) ⌝ }
+) -> Found
+    ensures { λ r. ⌜ r ≡ firstBad 6 (only (stepRule zones periods zone period side spare price quantity)) ⌝ }
 {
     let tests = [
         zone < zones,
@@ -134,8 +102,8 @@ pub fn step_field(
     first_failing(&tests)
 }
 
-pub fn block_field(zones: usize, zone: usize, side: usize, spare: usize, price: i64) -> usize
-    ensures { λ r. ⌜ r ≡ firstOr 4 (only (blockRule zones zone side spare price)) ⌝ }
+pub fn block_field(zones: usize, zone: usize, side: usize, spare: usize, price: i64) -> Found
+    ensures { λ r. ⌜ r ≡ firstBad 4 (only (blockRule zones zone side spare price)) ⌝ }
 {
     let tests = [
         zone < zones,

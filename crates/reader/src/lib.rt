@@ -1,6 +1,7 @@
 // One section of either file, by the kind of its rows.
 use rows::Kind;
 use sections::Section;
+use stages::Found;
 use stages::Spot;
 ghost use mathlib.Core.Path.{_≡_};
 ghost use Prim.Native.Nat.{_+_, _*_, _≤_};
@@ -12,14 +13,17 @@ ghost use Rattle.sections.specs.Section.{count, after, onward};
 ghost use Rattle.rows.specs.Rows.{rowSize, fieldCount, fieldOk};
 ghost use Rattle.reader.specs.Reader.{rowsAt};
 
-// The first row of a section that breaks its rule, and in it the first field that does. The fields are looked at one by one in that row alone.
+// The first row of a section that breaks its rule, and in it the first field that does.
 fn bad_field(kind: Kind, periods: usize, zones: usize, part: &[u8], n: usize) -> Spot
     requires { ⌜ (periods ≤ mostPeriods) × (2 + rowSize kind periods * n ≤ length (now part)) ⌝ }
     ensures { λ r. ⌜ r ≡ firstCell n (fieldCount kind periods) (fieldOk kind periods zones (now (part .entry))) ⌝ }
 {
     for i in 0..n {
-        if !rows::row_ok(kind, periods, zones, part, i) {
-            return Spot::Cell(i, rows::row_field(kind, periods, zones, part, i));
+        match rows::row_field(kind, periods, zones, part, i) {
+            Found::At(f) => {
+                return Spot::Cell(i, f);
+            }
+            Found::Nothing => {}
         }
     }
     Spot::Nowhere

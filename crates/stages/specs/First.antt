@@ -3,11 +3,11 @@ use Prim.Native.Nat.{ℕ, zero, suc, _+_, _<_, _≤_}
 use native.Mathlib.Nat.{le-of-suc-le-suc, not-suc-le-zero, eq-or-lt-of-le, le-antisymm}
 use native.Mathlib.Numerals.{add-one}
 use native.Mathlib.Omega.{arith}
-use mathlib.Core.Path.{_≡_, refl, sym, ap}
+use mathlib.Core.Path.{_≡_, refl, sym}
 use mathlib.Core.Logic.{_⊎_, inl, inr, ⊎-elim, _↔_}
 use mathlib.Core.Bool.{Bool, true, false, _&&_, not}
 use lib.Dec.{leb, ltb, eqb}
-use borrow.Author.Tests.{leb-true, leb-false, le-leb, lt-leb, ltb-true, lt-ltb, eqb-true, eq-eqb, ne-eqb}
+use borrow.Author.Tests.{leb-true, leb-false, le-leb, lt-leb, ltb-true, lt-ltb, eqb-true, eq-eqb}
 use Rattle.stages.specs.declared.Found.{Found}
 use Rattle.stages.specs.declared.Found.the-variants.{At, Nothing}
 
@@ -130,75 +130,6 @@ every-first (suc n) t = rw (every-first n t) (by (firstBad n t) (t n))
     by (At k) b = refl
     by Nothing true = refl
     by Nothing false = refl
-
-pub every-none : (n : ℕ) (t : ℕ → Bool) → every n t ≡ true → firstBad n t ≡ Nothing
-every-none n t e = by (firstBad n t) (rw (every-first n t) at e)
-  where
-    by : (f : Found) → foundNothing f ≡ true → f ≡ Nothing
-    by (At k) z = apart z refl
-    by Nothing z = refl
-
--- ---- the first row that fails, as a number: n where none does
-
-abbrev pub before : ℕ → Found → ℕ
-before n (At k) = k
-before n Nothing = n
-
-abbrev pub firstOr : ℕ → (ℕ → Bool) → ℕ
-firstOr n t = before n (firstBad n t)
-
--- where not every row passes, it is a row
-pub first-is : (n : ℕ) (t : ℕ → Bool) → every n t ≡ false → At (firstOr n t) ≡ firstBad n t
-first-is n t e = by (firstBad n t) (rw (every-first n t) at e)
-  where
-    by : (f : Found) → foundNothing f ≡ false → At (before n f) ≡ f
-    by (At k) e = refl
-    by Nothing e = apart refl e
-
--- where there is one row, it is the first
-pub first-alone : (n : ℕ) (t : ℕ → Bool) → n ≡ 1 → every n t ≡ false → At 0 ≡ firstBad n t
-first-alone n t one e = by (firstBad n t) (says n t) (rw (every-first n t) at e)
-  where
-    by : (f : Found) → Says n t f → foundNothing f ≡ false → At 0 ≡ f
-    by (At k) s z = let q : 0 ≡ k = omega (arith, one, s .0) in rw q
-    by Nothing s z = apart refl z
-
--- where it is none, every row passes
-pub none-is : (n : ℕ) (t : ℕ → Bool) → n ≤ firstOr n t → firstBad n t ≡ Nothing
-none-is n t l = by (firstBad n t) (says n t) l
-  where
-    by : (f : Found) → Says n t f → n ≤ before n f → f ≡ Nothing
-    by (At k) s l = absurd (omega (arith, s .0, l))
-    by Nothing s l = refl
-
--- where it is some row below n, that is the first that fails
-pub some-is : (n : ℕ) (t : ℕ → Bool) → firstOr n t < n → At (firstOr n t) ≡ firstBad n t
-some-is n t l = by (firstBad n t) l
-  where
-    by : (f : Found) → before n f < n → At (before n f) ≡ f
-    by (At k) l = refl
-    by Nothing l = absurd (omega (arith, l))
-
-pub first-most : (n : ℕ) (t : ℕ → Bool) → firstOr n t ≤ n
-first-most n t = by (firstBad n t) (says n t)
-  where
-    by : (f : Found) → Says n t f → before n f ≤ n
-    by (At k) s = omega (arith, s .0)
-    by Nothing s = omega arith
-
-pub all-pass : (n : ℕ) (t : ℕ → Bool) → eqb (firstOr n t) n ≡ every n t
-all-pass n t = rw (every-first n t) (by (firstBad n t) (says n t))
-  where
-    by : (f : Found) → Says n t f → eqb (before n f) n ≡ foundNothing f
-    by (At k) s = ne-eqb k n (λ q. omega (arith, s .0, q))
-    by Nothing s = eq-eqb n n refl
-
--- the answers of a loop that counts the rows that pass
-pub stop-first : {t : ℕ → Bool} {i n : ℕ} → Passed t i → t i ≡ false → i < n → i ≡ firstOr n t
-stop-first {n = n} p e l = ap (before n) (stop p e l)
-
-pub done-first : {t : ℕ → Bool} {i n : ℕ} → Passed t i → i ≤ n → n ≤ i → n ≡ firstOr n t
-done-first {n = n} p l m = ap (before n) (done p l m)
 
 -- ---- tests that agree at each row below n
 

@@ -4,8 +4,8 @@ use native.Mathlib.Nat.{le-of-suc-le-suc, not-suc-le-zero, eq-or-lt-of-le, le-an
 use native.Mathlib.Numerals.{add-one}
 use mathlib.Core.Path.{_≡_, refl, sym}
 use mathlib.Core.Logic.{_⊎_, inl, inr}
-use mathlib.Core.Bool.{Bool, true, false}
-use Rattle.stages.specs.First.{every, firstBad, Passed, stop, done, every-none}
+use mathlib.Core.Bool.{Bool, false}
+use Rattle.stages.specs.First.{firstBad, Passed, stop, done}
 use Rattle.stages.specs.declared.Found.{Found}
 use Rattle.stages.specs.declared.Found.the-variants.{At, Nothing}
 use Rattle.stages.specs.declared.Spot.{Spot}
@@ -37,14 +37,11 @@ pub no-row-yet : (t : ℕ → ℕ → Bool) (cols : ℕ) → RowsPassed t cols 0
 no-row-yet t cols = record { nowhere = refl }
 
 -- the row z passes
-one-row-more : {t : ℕ → ℕ → Bool} {cols z : ℕ} → RowsPassed t cols z → firstBad cols (t z) ≡ Nothing → RowsPassed t cols (z + 1)
-one-row-more p e = record { nowhere = rw (add-one, p .nowhere, e) }
-
-pub row-passes : {t : ℕ → ℕ → Bool} {cols z : ℕ} → RowsPassed t cols z → every cols (t z) ≡ true → RowsPassed t cols (z + 1)
-row-passes {t} {cols} {z} p e = one-row-more p (every-none cols (t z) e)
+pub row-passes : {t : ℕ → ℕ → Bool} {cols z : ℕ} → RowsPassed t cols z → Nothing ≡ firstBad cols (t z) → RowsPassed t cols (z + 1)
+row-passes p e = record { nowhere = rw (add-one, p .nowhere, ← e) }
 
 pub row-more : {t : ℕ → ℕ → Bool} {cols z i : ℕ} → RowsPassed t cols z → Passed (t z) i → i ≤ cols → cols ≤ i → RowsPassed t cols (z + 1)
-row-more p q l m = one-row-more p (sym (done q l m))
+row-more p q l m = row-passes p (done q l m)
 
 -- it fails, first at the column i
 stop-row : {t : ℕ → ℕ → Bool} {cols z i : ℕ} (rows : ℕ) → RowsPassed t cols z → At i ≡ firstBad cols (t z) → z < rows →

@@ -6,7 +6,7 @@ use lib.ListN.{length}
 use denote.Ref.{now}
 use borrow.Author.Needs.{needs}
 use borrow.Author.Tests.{not-true, not-false}
-use Rattle.stages.specs.First.{Passed, none-yet, more, stop-first, done-first}
+use Rattle.stages.specs.First.{Passed, none-yet, more, stop, done}
 use Rattle.limits.specs.Fields.{only, only-at}
 use Rattle.limits.proofs.first_failing.Statement.{statement}
 use Rattle.limits.proofs.first_failing.Tie as tie
@@ -26,7 +26,7 @@ shared-slice-read-if1 c = omega arith
 returns : tie.Need-returns Inv-loop μ-loop
 returns c =
     let l = c .before .before .loop-test .taken in
-    stop-first (c .before .before .before .loop .inv .1) (only-at (now (c .before .before .before .before .args .tests)) l ∙ not-true _ (c .if1 .taken)) l
+    stop (c .before .before .before .loop .inv .1) (only-at (now (c .before .before .before .before .args .tests)) l ∙ not-true _ (c .if1 .taken)) l
 
 add-f : tie.Need-add-f Inv-loop μ-loop
 add-f c = omega arith
@@ -40,7 +40,7 @@ loop-again c =
     (omega arith, more (c .before .before .before .loop .inv .1) (only-at (now (c .before .before .before .before .args .tests)) l ∙ not-false _ (c .if1 .left)))
 
 returns-2 : tie.Need-returns-2 Inv-loop μ-loop
-returns-2 c = done-first (c .before .loop .inv .1) (c .before .loop .inv .0) (c .loop-test .left)
+returns-2 c = done (c .before .loop .inv .1) (c .before .loop .inv .0) (c .loop-test .left)
 
 pub first-failing-spec : {M : Type 1} → statement M
 first-failing-spec =

@@ -1,4 +1,4 @@
--- `rows::first_above` meets its contract. Assumes nothing.
+-- `rows::first_above` meets its contract: the volumes before k are not above. Assumes nothing.
 use mathlib.Core.Path.{sym, ap, _∙_}
 use Prim.Native.Nat.{ℕ, _+_, _*_, _-_, _≤_}
 use native.Mathlib.Omega.{arith}
@@ -6,15 +6,16 @@ use lib.Dec.{leb}
 use borrow.Author.Needs.{needs}
 use borrow.Author.Tests.{le-leb, lt-leb}
 use Rattle.wire.specs.Bytes.{u32At}
-use Rattle.stages.specs.First.{Passed, none-yet, more, stop-first, done-first}
+use Rattle.stages.specs.First.{Passed, none-yet, more, stop, done}
+use Rattle.limits.specs.Fields.{countedOn, counted, counted-none}
 use Rattle.rows.proofs.first_above.Statement.{statement}
 use Rattle.rows.proofs.first_above.Tie as tie
 
 abbrev Inv-loop : tie.InvT-loop
-Inv-loop part at n most k₀ k = (k ≤ n) × Passed (λ j. leb (u32At part (at + 4 * j)) most) k
+Inv-loop part at n most first k₀ k = (k ≤ n) × Passed (λ j. leb (u32At part (at + 4 * j)) most) k
 
 abbrev μ-loop : tie.MeasureT-loop
-μ-loop part at n most k₀ k = n - k
+μ-loop part at n most first k₀ k = n - k
 
 loop-holds : tie.Need-loop-holds Inv-loop μ-loop
 loop-holds c = (search needs, none-yet _)
@@ -28,10 +29,15 @@ add-u32-at c = omega arith
 u32-at-requires : tie.Need-u32-at-requires Inv-loop μ-loop
 u32-at-requires c κs = omega arith
 
+add-f : tie.Need-add-f Inv-loop μ-loop
+add-f c = omega arith
+
 returns : tie.Need-returns Inv-loop μ-loop
 returns c =
-    let most = c .before .before .before .before .before .args .most in
-    stop-first (c .before .before .before .loop .inv .1) (ap (λ (v : ℕ). leb v most) (sym (c .before .u32-at .ensures)) ∙ lt-leb _ _ (c .if1 .taken)) (c .before .before .loop-test .taken)
+    let a = c .before .before .before .before .before .args in
+    let fails = ap (λ (v : ℕ). leb v (a .most)) (sym (c .before .u32-at .ensures)) ∙ lt-leb _ _ (c .if1 .taken) in
+    sym (counted (a .first) (c .before .before .before .loop .k))
+    ∙ ap (countedOn (a .first)) (stop (c .before .before .before .loop .inv .1) fails (c .before .before .loop-test .taken))
 
 add-k : tie.Need-add-k Inv-loop μ-loop
 add-k c = omega arith
@@ -45,7 +51,9 @@ loop-again c =
     (omega arith, more (c .before .before .before .loop .inv .1) (ap (λ (v : ℕ). leb v most) (sym (c .before .u32-at .ensures)) ∙ le-leb _ _ (c .if1 .left)))
 
 returns-2 : tie.Need-returns-2 Inv-loop μ-loop
-returns-2 c = done-first (c .before .loop .inv .1) (c .before .loop .inv .0) (c .loop-test .left)
+returns-2 c =
+    let first = c .before .before .before .args .first in
+    sym (counted-none first) ∙ ap (countedOn first) (done (c .before .loop .inv .1) (c .before .loop .inv .0) (c .loop-test .left))
 
 pub first-above-spec : {M : Type 1} → statement M
 first-above-spec =
@@ -57,6 +65,7 @@ first-above-spec =
     mul-u32-at
     add-u32-at
     u32-at-requires
+    add-f
     returns
     add-k
     loop-less

@@ -1,14 +1,11 @@
--- `rows::line_field` meets its contract: the ends, and the capacities count on behind them. Assumes nothing.
-use Prim.Native.Nat.{_*_}
-use native.Mathlib.Omega.{arith}
+-- `rows::line_field` meets its contract: an end, or a capacity counted on behind them. Assumes nothing.
 use mathlib.Core.Path.{_≡_}
 use denote.Ref.{now}
-use Rattle.stages.specs.First.{firstOr, first-most}
+use Rattle.stages.specs.First.{firstBad}
 use Rattle.limits.specs.Fields.{only}
-use Rattle.limits.specs.Limits.{isVolume}
 use Rattle.limits.specs.Rules.{endsRule}
-use Rattle.rows.specs.Rows.{from, to, capacity}
-use Rattle.rows.specs.Laws.{line-end, line-capacity}
+use Rattle.rows.specs.Rows.{from, to}
+use Rattle.rows.specs.Laws.{line-first}
 use borrow.Author.Needs.{needs}
 use Rattle.rows.proofs.line_field.Statement.{statement}
 use Rattle.rows.proofs.line_field.Tie as tie
@@ -25,14 +22,11 @@ u8-at-requires-2 c κs = search needs
 ends-field-requires : tie.Need-ends-field-requires
 ends-field-requires c κs = search needs
 
-ends-first : (c : tie.After-ends-field) → let s = c .before .before .before .before in
-    c .ends-field .result ≡ firstOr 2 (only (endsRule (s .args .zones) (from (now (s .args .part)) (s .args .at)) (to (now (s .args .part)) (s .args .at))))
-ends-first c = cc
+enum-known-f : tie.Need-enum-known-f
+enum-known-f c = search needs
 
-returns : tie.Need-returns
-returns c =
-    let s = c .before .before .before .before .before in
-    line-end (s .args .periods) (s .args .zones) (now (s .args .part)) (s .args .at) (s .pre .1 .1) (ends-first (c .before)) (c .if1 .taken)
+enum-told : tie.Need-enum-told
+enum-told c = search needs
 
 add-first-above : tie.Need-add-first-above
 add-first-above c = search needs
@@ -43,16 +37,19 @@ mul-first-above c = search needs
 first-above-requires : tie.Need-first-above-requires
 first-above-requires c κs = search needs
 
-add-result : tie.Need-add-result
-add-result c =
-    let a = c .before .before .before .before .before .before .args in
-    omega (arith, c .first-above .ensures, first-most (2 * a .periods) (λ k. isVolume (capacity (now (a .part)) (a .at) k)))
+ends-first : (c : tie.After-ends-field) → let a = c .before .before .before .before .args in
+    c .ends-field .result ≡ firstBad 2 (only (endsRule (a .zones) (from (now (a .part)) (a .at)) (to (now (a .part)) (a .at))))
+ends-first c = cc
+
+returns : tie.Need-returns
+returns c =
+    let a = c .before .before .before .before .before .before .before .args in
+    rw (line-first (a .periods) (a .zones) (now (a .part)) (a .at), ← ends-first (c .before .before .before), c .before .f .given .1)
 
 returns-2 : tie.Need-returns-2
 returns-2 c =
-    let s = c .before .before .before .before .before .before in
-    line-capacity (s .args .periods) (s .args .zones) (now (s .args .part)) (s .args .at) (s .pre .1 .1) (ends-first (c .before .before)) (c .before .if1 .left)
-    (c .first-above .ensures)
+    let a = c .before .before .before .before .before .before .before .args in
+    rw (line-first (a .periods) (a .zones) (now (a .part)) (a .at), ← ends-first (c .before .before .before), c .before .enum-told .given .1) (c .first-above .ensures)
 
 pub line-field-spec : {M : Type 1} → statement M
 line-field-spec =
@@ -62,9 +59,10 @@ line-field-spec =
     add-u8-at
     u8-at-requires-2
     ends-field-requires
-    returns
+    enum-known-f
+    enum-told
     add-first-above
     mul-first-above
     first-above-requires
-    add-result
+    returns
     returns-2)

@@ -1,11 +1,6 @@
 -- `rows::period_field` meets its contract. Assumes nothing.
-use mathlib.Core.Path.{_≡_, ap, _∙_}
-use denote.Ref.{now}
 use mir.Syntax.{w64}
 use mir.ValLaws.{toZ-ofZ}
-use Rattle.stages.specs.First.{firstOr, first-is}
-use Rattle.stages.specs.declared.Found.the-variants.{At}
-use Rattle.rows.specs.Rows.{periodFields}
 use borrow.Author.Needs.{needs}
 use Rattle.rows.proofs.period_field.Statement.{statement}
 use Rattle.rows.proofs.period_field.Tie as tie
@@ -24,12 +19,10 @@ period-field-requires c κs = search needs
 
 returns : tie.Need-returns
 returns c =
-    let s = c .before .before .before .before in
-    let floor = c .before .before .i32-at in
-    let ceiling = c .before .i32-at2 in
-    let e : c .period-field .result ≡ firstOr 2 (periodFields (now (s .args .part)) (s .args .at)) =
-    cc (toZ-ofZ w64 (floor .result) (record { sfits = floor .ok }), toZ-ofZ w64 (ceiling .result) (record { sfits = ceiling .ok })) in
-    ap At e ∙ first-is 2 (periodFields (now (s .args .part)) (s .args .at)) (s .pre .1)
+    cc (
+      toZ-ofZ w64 (c .before .before .i32-at .result) (record { sfits = c .before .before .i32-at .ok }),
+      toZ-ofZ w64 (c .before .i32-at2 .result) (record { sfits = c .before .i32-at2 .ok }),
+    )
 
 pub period-field-spec : {M : Type 1} → statement M
 period-field-spec =

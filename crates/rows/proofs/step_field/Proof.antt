@@ -1,11 +1,6 @@
 -- `rows::step_field` meets its contract. Assumes nothing.
-use mathlib.Core.Path.{_≡_, ap, _∙_}
-use denote.Ref.{now}
 use mir.Syntax.{w64}
 use mir.ValLaws.{toZ-ofZ}
-use Rattle.stages.specs.First.{firstOr, first-is}
-use Rattle.stages.specs.declared.Found.the-variants.{At}
-use Rattle.rows.specs.Rows.{stepFields}
 use borrow.Author.Needs.{needs}
 use Rattle.rows.proofs.step_field.Statement.{statement}
 use Rattle.rows.proofs.step_field.Tie as tie
@@ -47,12 +42,7 @@ step-field-requires : tie.Need-step-field-requires
 step-field-requires c κs = search needs
 
 returns : tie.Need-returns
-returns c =
-    let s = c .before .before .before .before .before .before .before .before in
-    let fields = stepFields (s .args .periods) (s .args .zones) (now (s .args .part)) (s .args .at) in
-    let price = c .before .before .i32-at in
-    let e : c .step-field .result ≡ firstOr 6 fields = cc (toZ-ofZ w64 (price .result) (record { sfits = price .ok })) in
-    ap At e ∙ first-is 6 fields (s .pre .1)
+returns c = cc (toZ-ofZ w64 (c .before .before .i32-at .result) (record { sfits = c .before .before .i32-at .ok }))
 
 pub step-field-spec : {M : Type 1} → statement M
 step-field-spec =
