@@ -12,7 +12,7 @@ first-failing-requires : tie.Need-first-failing-requires
 first-failing-requires c κs = search needs
 
 returns : tie.Need-returns
-returns c = let s = c .before .before in cc (toZ-ofZ w64 (s .args .price) (s .fits .price))
+returns c = let s = c .before .before in rw (toZ-ofZ w64 (s .args .price) (s .fits .price)) at (c .first-failing .ensures)
 
 pub block-field-spec : {M : Type 1} → statement M
 block-field-spec =

@@ -12,7 +12,9 @@ first-failing-requires : tie.Need-first-failing-requires
 first-failing-requires c κs = search needs
 
 returns : tie.Need-returns
-returns c = let s = c .before .before in cc (toZ-ofZ w64 (s .args .floor) (s .fits .floor), toZ-ofZ w64 (s .args .ceiling) (s .fits .ceiling))
+returns c =
+    let s = c .before .before in
+    rw (toZ-ofZ w64 (s .args .floor) (s .fits .floor), toZ-ofZ w64 (s .args .ceiling) (s .fits .ceiling)) at (c .first-failing .ensures)
 
 pub period-field-spec : {M : Type 1} → statement M
 period-field-spec =
