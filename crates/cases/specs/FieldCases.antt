@@ -1,5 +1,5 @@
 -- Which field a refusal names: fields of day A and clearing A out of range, by themselves or against those before them, and of a day of two
--- periods. One table, and one statement about it. Assumes nothing.
+-- periods. Tables, and one statement about them. Assumes nothing.
 use Prim.Native.Nat.{ℕ, _+_}
 use mathlib.Core.Path.{_≡_, refl}
 use mathlib.Core.List.{List, [], _∷_, _++_}
@@ -48,8 +48,8 @@ twoPeriods forward0 back0 forward1 back1 quantity0 quantity1 =
 abbrev inTwo : List ℕ → Outcome → Case
 inTwo day outcome = record { day = day; clearing = []; outcome = outcome }
 
-abbrev pub table : List Case
-table =
+abbrev pub ofNetwork : List Case
+ofNetwork =
     -- a floor too high; a ceiling below its floor; both out of range
     inDay 2 (i32 (pos 1000001)) (field 3 1 0 0)
     ∷ inDay 6 (i32 (negℤ (pos 50001))) (field 3 1 0 1)
@@ -63,8 +63,12 @@ table =
     ∷ inDay 20 (bytes32 1000001) (field 3 3 0 2)
     ∷ inDay 24 (bytes32 1000001) (field 3 3 0 3)
     ∷ inDay 20 (bytes32 1000001 ++ bytes32 1000001) (field 3 3 0 2)
+    ∷ []
+
+abbrev pub ofStep : List Case
+ofStep =
     -- the fields of the step 1, one by one; the spare byte and the price; the quantity and the zone of the step behind it
-    ∷ inDay 42 (2 ∷ []) (field 3 4 1 0)
+    inDay 42 (2 ∷ []) (field 3 4 1 0)
     ∷ inDay 43 (1 ∷ []) (field 3 4 1 1)
     ∷ inDay 44 (2 ∷ []) (field 3 4 1 2)
     ∷ inDay 45 (1 ∷ []) (field 3 4 1 3)
@@ -72,28 +76,59 @@ table =
     ∷ inDay 50 (bytes32 0) (field 3 4 1 5)
     ∷ inDay 45 ((1 ∷ []) ++ i32 (pos 1000001)) (field 3 4 1 3)
     ∷ inDay 50 (bytes32 0 ++ (2 ∷ [])) (field 3 4 1 5)
+    ∷ []
+
+abbrev pub ofBlock : List Case
+ofBlock =
     -- the fields of the block, one by one; no quantity; no quantity and a spare number that is not 0
-    ∷ inDay 80 (2 ∷ []) (field 3 5 0 0)
+    inDay 80 (2 ∷ []) (field 3 5 0 0)
     ∷ inDay 81 (2 ∷ []) (field 3 5 0 1)
     ∷ inDay 82 (bytes16 256) (field 3 5 0 2)
     ∷ inDay 84 (i32 (pos 1000001)) (field 3 5 0 3)
     ∷ inDay 88 (bytes32 1000001) (field 3 5 0 4)
     ∷ inDay 88 (bytes32 0) (field 3 5 0 4)
     ∷ inDay 82 (bytes16 1 ++ i32 (pos 100) ++ bytes32 0) (field 3 5 0 2)
+    ∷ []
+
+abbrev pub ofTwoPeriods : List Case
+ofTwoPeriods =
     -- capacities and quantities of the second period count on
-    ∷ inTwo (twoPeriods 1 1 1000001 1 1 1) (field 3 3 0 4)
+    inTwo (twoPeriods 1 1 1000001 1 1 1) (field 3 3 0 4)
     ∷ inTwo (twoPeriods 1 1 1 1000001 1 1) (field 3 3 0 5)
     ∷ inTwo (twoPeriods 1 1000001 1000001 1 1 1) (field 3 3 0 3)
     ∷ inTwo (twoPeriods 1 1 1 1 1 1000001) (field 3 5 0 5)
     ∷ inTwo (twoPeriods 1 1 1 1 0 0) (field 3 5 0 5)
     ∷ inTwo (twoPeriods 1 1 1 1 1000001 0) (field 3 5 0 4)
+    ∷ []
+
+abbrev pub ofClearing : List Case
+ofClearing =
     -- a clearing's rows have one field
-    ∷ inClearing 6 (i32 (negℤ (pos 1000001))) (field 7 1 1 0)
+    inClearing 6 (i32 (negℤ (pos 1000001))) (field 7 1 1 0)
     ∷ inClearing 12 (i32 (pos 1000001)) (field 7 2 0 0)
     ∷ inClearing 30 (bytes32 1000001) (field 7 3 3 0)
     ∷ inClearing 36 (2 ∷ []) (field 7 4 0 0)
     ∷ []
 
-pub shown : Shown table
+network-shown : Shown ofNetwork
 unfolding dayStages clearingStages fieldOk
-shown = (refl, (refl, (refl, (refl, (refl, (refl, (refl, (refl, (refl, (refl, (refl, (refl, (refl, (refl, (refl, (refl, (refl, (refl, (refl, (refl, (refl, (refl, (refl, (refl, (refl, (refl, (refl, (refl, (refl, (refl, (refl, (refl, (refl, (refl, (refl, tt)))))))))))))))))))))))))))))))))))
+network-shown = (refl, (refl, (refl, (refl, (refl, (refl, (refl, (refl, (refl, (refl, tt))))))))))
+
+step-shown : Shown ofStep
+unfolding dayStages clearingStages fieldOk
+step-shown = (refl, (refl, (refl, (refl, (refl, (refl, (refl, (refl, tt))))))))
+
+block-shown : Shown ofBlock
+unfolding dayStages clearingStages fieldOk
+block-shown = (refl, (refl, (refl, (refl, (refl, (refl, (refl, tt)))))))
+
+two-periods-shown : Shown ofTwoPeriods
+unfolding dayStages clearingStages fieldOk
+two-periods-shown = (refl, (refl, (refl, (refl, (refl, (refl, tt))))))
+
+clearing-shown : Shown ofClearing
+unfolding dayStages clearingStages fieldOk
+clearing-shown = (refl, (refl, (refl, (refl, tt))))
+
+pub shown : Shown ofNetwork × (Shown ofStep × (Shown ofBlock × (Shown ofTwoPeriods × Shown ofClearing)))
+shown = (network-shown, (step-shown, (block-shown, (two-periods-shown, clearing-shown))))

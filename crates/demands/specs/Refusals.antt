@@ -69,13 +69,18 @@ FieldOnly k p = ¬ (k ≡ 3) → ¬ (k ≡ 7) → p .third ≡ 0
 abbrev FieldOnlyOf : Stage → Type 0
 FieldOnlyOf s = (z i : ℕ) → FieldOnly (s .number) (s .named z i)
 
--- a section of the day file, and what comes after it; one of the clearing file
-in-day : (n : ℕ) {R : Type 0} → R →
-    ((z i : ℕ) → FieldOnly 1 (place n 0)) × (((z i : ℕ) → FieldOnly 2 (place n 0)) × (((z i : ℕ) → FieldOnly 1 (place n 0)) × (((z i : ℕ) → FieldOnly 3 (fieldPlace n z i)) × R)))
+-- a section with these numbers of its stages, and what comes after it: of the day file, and of the clearing file
+abbrev SectionOnly : ℕ → ℕ → ℕ → ℕ → Type 0 → Type 0
+SectionOnly cut beyond bad n R =
+    ((z i : ℕ) → FieldOnly cut (place n 0))
+    × (((z i : ℕ) → FieldOnly beyond (place n 0))
+    × (((z i : ℕ) → FieldOnly cut (place n 0))
+    × (((z i : ℕ) → FieldOnly bad (fieldPlace n z i)) × R)))
+
+in-day : (n : ℕ) {R : Type 0} → R → SectionOnly 1 2 3 n R
 in-day n = four (λ z i _ _. refl) (λ z i _ _. refl) (λ z i no _. absurd (no refl))
 
-in-clearing : (n : ℕ) {R : Type 0} → R →
-    ((z i : ℕ) → FieldOnly 5 (place n 0)) × (((z i : ℕ) → FieldOnly 6 (place n 0)) × (((z i : ℕ) → FieldOnly 5 (place n 0)) × (((z i : ℕ) → FieldOnly 7 (fieldPlace n z i)) × R)))
+in-clearing : (n : ℕ) {R : Type 0} → R → SectionOnly 5 6 7 n R
 in-clearing n = four (λ z i _ _. refl) (λ z i _ _. refl) (λ z i _ no. absurd (no refl))
 
 day-places : (day : List ℕ) → Each FieldOnlyOf (dayStages day)

@@ -20,6 +20,14 @@ pub fn number(n: usize) -> usize
     n
 }
 
+// The same, behind a space.
+pub fn spaced(n: usize) -> usize
+    ensures { λ r. ⌜ r ≡ n ⌝ }
+{
+    text(b" ");
+    number(n)
+}
+
 // Prints a whole number in plain decimal, with a minus sign where it is below zero. Gives what it printed behind the sign.
 pub fn signed(v: i64) -> u64
     ensures { λ r. ⌜ r ≡ natAbs v ⌝ }

@@ -8,14 +8,10 @@ ghost use lib.ListN.{length};
 ghost use Rattle.io.specs.Counts.{Counts};
 
 fn say_place(number: u8, place: Place) {
-    print::text(b" ");
-    print::number(number as usize);
-    print::text(b" ");
-    print::number(place.first);
-    print::text(b" ");
-    print::number(place.second);
-    print::text(b" ");
-    print::number(place.third);
+    print::spaced(number as usize);
+    print::spaced(place.first);
+    print::spaced(place.second);
+    print::spaced(place.third);
 }
 
 fn say_fault(fault: Fault) {

@@ -10,14 +10,11 @@ ghost use Rattle.verdict.specs.Verdict as meaning;
 // ---- the verdict and the totals
 
 fn say_verdict(number: u8, place: Place) {
-    print::text(b"verdict ");
-    print::number(number as usize);
-    print::text(b" ");
-    print::number(place.first);
-    print::text(b" ");
-    print::number(place.second);
-    print::text(b" ");
-    print::number(place.third);
+    print::text(b"verdict");
+    print::spaced(number as usize);
+    print::spaced(place.first);
+    print::spaced(place.second);
+    print::spaced(place.third);
     print::text(b"\n");
 }
 

@@ -90,7 +90,8 @@ module _ (numbers : Numbers) (number n fields : ℕ) (ok : ℕ → ℕ → Bool)
   rows-fault (Cell i f) = refl
   rows-fault Nowhere = refl
 
-  by-tests : (a b c : Bool) → firstFault (stages-of a b c) ≡ faultOf numbers number (withRows fields ok (pick a (pick b (pick c (Rows n) CutOff) Beyond) CutOff))
+  by-tests : (a b c : Bool) →
+      firstFault (stages-of a b c) ≡ faultOf numbers number (withRows fields ok (pick a (pick b (pick c (Rows n) CutOff) Beyond) CutOff))
   by-tests false b c = refl
   by-tests true false c = refl
   by-tests true true false = refl
