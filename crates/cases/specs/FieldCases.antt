@@ -1,7 +1,7 @@
 -- Which field a refusal names: fields of day A and clearing A out of range, by themselves or against those before them, and of a day of two
 -- periods. Tables, and one statement about them. Assumes nothing.
 use Prim.Native.Nat.{ℕ, _+_}
-use mathlib.Core.Path.{_≡_, refl}
+use mathlib.Core.Path.{refl}
 use mathlib.Core.List.{List, [], _∷_, _++_}
 use lib.IntN.{pos, negℤ}
 use lib.ListN.{length, take, drop}
@@ -10,7 +10,6 @@ use Rattle.wire.specs.Bytes.{bytes16, bytes32}
 use Rattle.rows.specs.Rows.{fieldOk}
 use Rattle.day.specs.Day.{dayStages}
 use Rattle.clearing.specs.Clearing.{clearingStages}
-use Rattle.verdict.specs.Verdict.{verdict}
 use Rattle.verdict.specs.declared.Outcome.{Outcome}
 use Rattle.verdict.specs.declared.Outcome.the-variants.{Refused}
 use Rattle.cases.specs.Files.{i32, dayA, clearingA}
