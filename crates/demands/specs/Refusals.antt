@@ -2,11 +2,11 @@
 -- Assumes nothing.
 use Prim.Native.Nat.{ℕ, _<_, _≤_}
 use native.Mathlib.Omega.{arith}
-use mathlib.Core.Path.{_≡_, refl, subst, ap}
-use mathlib.Core.Logic.{_↔_, _⊎_, inl, inr, ⊎-elim, Iff·trans, Iff·and}
+use mathlib.Core.Path.{_≡_, refl}
+use mathlib.Core.Logic.{_↔_, _⊎_, inl, inr, ⊎-elim, Iff·rfl, Iff·trans, Iff·and}
 use mathlib.Core.List.{List, [], _∷_, _++_}
 use borrow.Author.Tests.{leb-false, lt-leb}
-use Rattle.stages.specs.Stage.{Stage, place, fieldPlace, firstFault, answer, Breaks, BrokenAt, Holds, Means, means}
+use Rattle.stages.specs.Stage.{Stage, place, fieldPlace, firstFault, answer, Breaks, BrokenAt, Holds, Means, means, broken-here}
 use Rattle.stages.specs.declared.Place.{Place}
 use Rattle.stages.specs.declared.Fault.{Fault}
 use Rattle.stages.specs.declared.Fault.the-variants.{Broken, Clean}
@@ -128,9 +128,7 @@ module _ (d : Day) (p : Prices) (c : Choice) where
   module _ (rule : Rule) (row col : ℕ) where
     -- a rule names a cell by its row and its column
     at-its-place : BrokenAt (stageOf rule) (number rule) (place row col) → Breaks (stageOf rule) row col
-    at-its-place b =
-        subst (λ (j : ℕ). Breaks (stageOf rule) row j) (ap (λ (q : Place). q .second) (b .named))
-        (subst (λ (i : ℕ). Breaks (stageOf rule) i (b .col)) (ap (λ (q : Place). q .first) (b .named)) (b .breaks))
+    at-its-place = broken-here (stageOf rule) (λ q. q .first) (λ q. q .second) (λ z i. refl) (λ z i. refl)
 
     -- a fault with a rule's number: the rule is broken there first, and those with a lower number hold
     rule-broken : Means (ruleStages d p c) (Broken (number rule) (place row col))
@@ -211,9 +209,9 @@ module _ (day clearing : List ℕ) (room : ℕ) where
   past-files : (k : ℕ) (p : Place) → 8 < k →
       (verdict day clearing room ≡ Refused k p) ↔ ((GoodDay day × GoodClearing (counts day) clearing) × Means afterFiles (Broken k p))
   past-files k p l =
-      let m = in-second (fileStages day clearing) afterFiles k p (FromTo 1 8) (λ h. omega (arith, l, h .1)) (file-numbers day clearing) in
-      let g = files-clean day clearing in
-      Iff·trans (refused-is-broken day clearing room k p) (λ b. (g .0 (m .0 b .0), m .0 b .1), λ b. m .1 (g .1 (b .0), b .1))
+      Iff·trans (refused-is-broken day clearing room k p)
+      (Iff·trans (in-second (fileStages day clearing) afterFiles k p (FromTo 1 8) (λ h. omega (arith, l, h .1)) (file-numbers day clearing))
+      (Iff·and (files-clean day clearing) Iff·rfl))
 
   -- one up to 8: the fault is in the files
   in-files : (k : ℕ) (p : Place) → k ≤ 8 → (verdict day clearing room ≡ Refused k p) ↔ Means (fileStages day clearing) (Broken k p)

@@ -161,7 +161,7 @@ fn block_field(part: &[u8], periods: usize, zones: usize, at: usize) -> Found
     }
 }
 
-// Of an i32 that should lie from least to most.
+// A row of one i32, from least to most.
 fn signed_field(part: &[u8], at: usize, least: i64, most: i64) -> Found
     requires { ⌜ at + 4 ≤ length (now part) ⌝ }
     ensures { λ r. ⌜ r ≡ firstBad 1 (only ((leZ least (i32At (now (part .entry)) at) && leZ (i32At (now (part .entry)) at) most) ∷ [])) ⌝ }

@@ -154,7 +154,7 @@ head-read least most size part n e = by (leb 2 (length part)) (between least mos
 pub after-is : (part : List ℕ) {size size′ n : ℕ} → size ≡ size′ → count part ≡ n → drop (2 + size * n) part ≡ after size′ part
 after-is part e f = rw (e, ← f)
 
--- its head has as many
+-- a section that reads without fault has as many rows as its head says
 found-none : (n m : ℕ) (s : Spot) → rowsBy n s ≡ Rows m → n ≡ m
 found-none n m (Cell i f) e = let z : _≡_ {A = ℕ} 0 1 = cc in absurd (omega arith)
 found-none n m Nowhere e = cc

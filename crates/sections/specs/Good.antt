@@ -1,7 +1,7 @@
 -- What a section that reads without fault guarantees, as a sentence. Assumes nothing.
 use Prim.Native.Nat.{ℕ, _+_, _*_, _<_, _≤_}
 use native.Mathlib.Omega.{arith}
-use mathlib.Core.Path.{_≡_, refl, ap, subst}
+use mathlib.Core.Path.{_≡_, refl, ap}
 use mathlib.Core.Logic.{_↔_, inl, inr, ⊎-elim}
 use mathlib.Core.Bool.{Bool, true, false}
 use mathlib.Core.List.{List}
@@ -9,7 +9,7 @@ use lib.Dec.{leb}
 use lib.ListN.{length, length-drop}
 use borrow.Author.Tests.{leb-true, le-leb}
 use Rattle.stages.specs.First.{every, every-is, both}
-use Rattle.stages.specs.Stage.{Stage, once, place, fieldPlace, Holds, Breaks, BrokenAt, Means}
+use Rattle.stages.specs.Stage.{Stage, once, place, fieldPlace, Holds, BrokenAt, Means, broken-here}
 use Rattle.stages.specs.declared.Place.{Place}
 use Rattle.stages.specs.declared.Fault.the-variants.{Broken, Clean}
 use Rattle.sections.specs.Section.{Numbers, between, count, table, section, after, ended}
@@ -99,14 +99,8 @@ module _ (numbers : Numbers) (number least most size fields : ℕ) (ok : ℕ →
     abbrev First : Type 0
     First = (number ≡ s) × FirstBad least most size fields ok part row field
 
-    -- the place says which row and which field
-    at-field : BrokenAt rows-stage (numbers .bad) (fieldPlace s row field) → Breaks rows-stage row field
-    at-field b =
-        subst (λ (f : ℕ). Breaks rows-stage row f) (ap (λ (q : Place). q .third) (b .named))
-        (subst (λ (i : ℕ). Breaks rows-stage i (b .col)) (ap (λ (q : Place). q .second) (b .named)) (b .breaks))
-
     first : Head least most size part → BrokenAt rows-stage (numbers .bad) (fieldPlace s row field) → First
-    first h b = let r = at-field b in (
+    first h b = let r = broken-here rows-stage (λ q. q .second) (λ q. q .third) (λ i f. refl) (λ i f. refl) b in (
       ap (λ (q : Place). q .first) (b .named),
       record {
         counted = h .counted;

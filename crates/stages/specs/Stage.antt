@@ -153,6 +153,15 @@ answer-is (s ∷ ss) (Broken k p) (inr m) = rw (spot-is s Nowhere (m .0)) (answe
 pub means : (ss : List Stage) (f : Fault) → (firstFault ss ≡ f) ↔ Means ss f
 means ss f = (λ e. subst (Means ss) e (holds-of ss), answer-is ss f)
 
+-- ---- a place that says which cell it names
+
+-- where a stage's places tell the row and the column of their cells, it is broken at the cell that its place tells
+pub broken-here : (s : Stage) (row col : Place → ℕ) → ((z i : ℕ) → row (s .named z i) ≡ z) → ((z i : ℕ) → col (s .named z i) ≡ i) →
+    {k : ℕ} {p : Place} → BrokenAt s k p → Breaks s (row p) (col p)
+broken-here s row col rows cols {p = p} b =
+    subst (Breaks s (row p)) (sym (cols (b .row) (b .col)) ∙ ap col (b .named))
+    (subst (λ (z : ℕ). Breaks s z (b .col)) (sym (rows (b .row) (b .col)) ∙ ap row (b .named)) (b .breaks))
+
 -- ---- one list after another
 
 abbrev pub orFault : Fault → Fault → Fault
