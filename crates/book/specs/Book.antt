@@ -8,7 +8,7 @@ use lib.IntN.{ℤ, pos}
 use Rattle.wire.specs.Bytes.{u8At, u32At, i32At}
 use Rattle.rows.specs.Rows as rows
 use Rattle.rows.specs.Rows.{rowStart}
-use Rattle.rows.specs.declared.Kind.the-variants.{Periods, Lines, Steps, Blocks, Prices, Flows, Volumes, Taken}
+use Rattle.rows.specs.declared.Kind.the-variants.{Periods, Lines, Steps, Blocks, Prices, Flows, Volumes, Ratios}
 use Rattle.market.specs.Market.{Day, Choice}
 use Rattle.market.specs.declared.Side.{Side}
 use Rattle.market.specs.declared.Side.the-variants.{Sell, Buy}
@@ -17,7 +17,7 @@ use Rattle.market.specs.declared.Block.{Block}
 use Rattle.market.specs.declared.Line.{Line}
 use Rattle.day.specs.declared.Counts.{Counts}
 use Rattle.day.specs.Day.{linesPart, stepsPart, blocksPart}
-use Rattle.clearing.specs.Clearing.{flowsPart, volumesPart, takenPart}
+use Rattle.clearing.specs.Clearing.{flowsPart, volumesPart, ratiosPart}
 
 -- ---- rows
 
@@ -93,8 +93,8 @@ module _ (c : Counts) (day : List ℕ) where
 unfoldable pub volumeOf : List ℕ → ℕ → ℕ
 volumeOf clearing i = u32At (volumesPart clearing) (rowStart Volumes 0 i)
 
-unfoldable pub takenOf : List ℕ → ℕ → Bool
-takenOf clearing k = eqb (u8At (takenPart clearing) (rowStart Taken 0 k)) 1
+unfoldable pub ratioOf : List ℕ → ℕ → Bool
+ratioOf clearing k = eqb (u8At (ratiosPart clearing) (rowStart Ratios 0 k)) 1
 
 module _ (c : Counts) (clearing : List ℕ) where
   -- all periods of zone 0 first, and all periods of line 0 first
@@ -105,4 +105,4 @@ module _ (c : Counts) (clearing : List ℕ) where
   flowOf l period = i32At (flowsPart clearing) (rowStart Flows 0 (l * c .periods + period))
 
   abbrev pub choiceOf : Choice
-  choiceOf = record { volume = volumeOf clearing; taken = takenOf clearing; flow = flowOf }
+  choiceOf = record { volume = volumeOf clearing; taken = ratioOf clearing; flow = flowOf }

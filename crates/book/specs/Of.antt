@@ -7,11 +7,11 @@ use mathlib.Core.List.{List}
 use lib.ListN.{length}
 use Rattle.rows.specs.Rows.{rowSize, rowStart}
 use Rattle.rows.specs.declared.Kind.{Kind}
-use Rattle.rows.specs.declared.Kind.the-variants.{Prices, Flows, Volumes, Taken}
+use Rattle.rows.specs.declared.Kind.the-variants.{Prices, Flows, Volumes, Ratios}
 use Rattle.day.specs.declared.Counts.{Counts}
 use Rattle.day.specs.Day.{counts}
 use Rattle.day.specs.Good.{GoodDay, InLimits, in-limits, prices-most, flows-most}
-use Rattle.clearing.specs.Clearing.{flowsPart, volumesPart, takenPart}
+use Rattle.clearing.specs.Clearing.{flowsPart, volumesPart, ratiosPart}
 use Rattle.clearing.specs.Good.{GoodClearing, Asked, asked-is}
 use Rattle.parts.specs.Of.{OfDay, Sized}
 
@@ -65,8 +65,8 @@ module _ {clearing : List ℕ} {c : Counts} (o : OfClearing clearing c) where
   pub volumes-sized : {part : List ℕ} → part ≡ volumesPart clearing → Sized Volumes 0 part (c .steps)
   volumes-sized = asked-sized Volumes (o .cleared .volumes-good)
 
-  pub taken-sized : {part : List ℕ} → part ≡ takenPart clearing → Sized Taken 0 part (c .blocks)
-  taken-sized = asked-sized Taken (o .cleared .taken-good)
+  pub ratios-sized : {part : List ℕ} → part ≡ ratiosPart clearing → Sized Ratios 0 part (c .blocks)
+  ratios-sized = asked-sized Ratios (o .cleared .ratios-good)
 
   -- no cell is beyond the most prices, or the most flows
   pub price-cell : {zone period : ℕ} → (zone < c .zones) × (period < c .periods) → zone * c .periods + period < 200

@@ -15,10 +15,10 @@ ghost use Rattle.rows.specs.Rows.{rowStart};
 ghost use Rattle.rows.specs.declared.Kind.the-variants.{Lines};
 ghost use Rattle.day.specs.Day.{linesPart};
 ghost use Rattle.parts.specs.Of.{OfDay};
-ghost use Rattle.clearing.specs.Clearing.{flowsPart, volumesPart, takenPart};
+ghost use Rattle.clearing.specs.Clearing.{flowsPart, volumesPart, ratiosPart};
 ghost use Rattle.book.specs.Of.{OfClearing};
 ghost use Rattle.book.specs.Book.{sideOf, stepAt, blockAt, lineAt, floorOf, ceilingOf, lineOf, forwardOf, backOf, stepOf, blockOf, quantityOf};
-ghost use Rattle.book.specs.Book.{pricesOf, flowOf, volumeOf, takenOf};
+ghost use Rattle.book.specs.Book.{pricesOf, flowOf, volumeOf, ratioOf};
 
 // ---- a capacity, as the least flow that it allows
 
@@ -49,9 +49,9 @@ fn volumes_part<'a>(clearing: &'a [u8], counts: Counts) -> &'a [u8]
     )
 }
 
-fn taken_part<'a>(clearing: &'a [u8], counts: Counts) -> &'a [u8]
+fn ratios_part<'a>(clearing: &'a [u8], counts: Counts) -> &'a [u8]
     requires { ⌜ OfClearing (now clearing) counts ⌝ }
-    ensures { λ r. ⌜ now r ≡ takenPart (now (clearing .entry)) ⌝ }
+    ensures { λ r. ⌜ now r ≡ ratiosPart (now (clearing .entry)) ⌝ }
 {
     reader::rest(
         Kind::Volumes,
@@ -216,9 +216,9 @@ pub fn volume_of(clearing: &[u8], counts: Counts, row: usize) -> u32
     wire::u32_at(volumes_part(clearing, counts), 2 + 4 * row)
 }
 
-pub fn taken_of(clearing: &[u8], counts: Counts, row: usize) -> bool
+pub fn ratio_of(clearing: &[u8], counts: Counts, row: usize) -> bool
     requires { ⌜ (OfClearing (now clearing) counts) × (row < counts .blocks) ⌝ }
-    ensures { λ r. ⌜ r ≡ takenOf (now (clearing .entry)) row ⌝ }
+    ensures { λ r. ⌜ r ≡ ratioOf (now (clearing .entry)) row ⌝ }
 {
-    wire::u8_at(taken_part(clearing, counts), 2 + row) == 1
+    wire::u8_at(ratios_part(clearing, counts), 2 + row) == 1
 }

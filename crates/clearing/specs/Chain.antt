@@ -7,7 +7,7 @@ use Rattle.stages.specs.declared.Place.{Place}
 use Rattle.stages.specs.declared.Fault.the-variants.{Broken, Clean}
 use Rattle.sections.specs.Section.{after, ended}
 use Rattle.rows.specs.Rows.{rowSize}
-use Rattle.rows.specs.declared.Kind.the-variants.{Flows, Volumes, Taken}
+use Rattle.rows.specs.declared.Kind.the-variants.{Flows, Volumes, Ratios}
 use Rattle.day.specs.declared.Counts.{Counts}
 use Rattle.day.specs.declared.DayFile.the-variants.{Good as DayGood, Bad as DayBad}
 use Rattle.day.specs.Day.{counts, dayStages, dayFile}
@@ -16,11 +16,11 @@ use Rattle.clearing.specs.Clearing.{clearingSection, clearingStages, fil
 use Rattle.clearing.specs.declared.Files.{Files}
 use Rattle.clearing.specs.declared.Files.the-variants.{Good, Bad}
 
-abbrev pub fromTaken : Counts → List ℕ → List Stage
-fromTaken c part = clearingSection 4 Taken (c .blocks) part ++ ended 8 (after (rowSize Taken 0) part)
+abbrev pub fromRatios : Counts → List ℕ → List Stage
+fromRatios c part = clearingSection 4 Ratios (c .blocks) part ++ ended 8 (after (rowSize Ratios 0) part)
 
 abbrev pub fromVolumes : Counts → List ℕ → List Stage
-fromVolumes c part = clearingSection 3 Volumes (c .steps) part ++ fromTaken c (after (rowSize Volumes 0) part)
+fromVolumes c part = clearingSection 3 Volumes (c .steps) part ++ fromRatios c (after (rowSize Volumes 0) part)
 
 abbrev pub fromFlows : Counts → List ℕ → List Stage
 fromFlows c part = clearingSection 2 Flows (c .lines * c .periods) part ++ fromVolumes c (after (rowSize Flows 0) part)

@@ -7,7 +7,7 @@ use Rattle.stages.specs.declared.Fault.the-variants.{Broken, Clean}
 use Rattle.sections.specs.Section.{Numbers, after, ended}
 use Rattle.rows.specs.Rows.{rowSize}
 use Rattle.rows.specs.declared.Kind.{Kind}
-use Rattle.rows.specs.declared.Kind.the-variants.{Prices, Flows, Volumes, Taken}
+use Rattle.rows.specs.declared.Kind.the-variants.{Prices, Flows, Volumes, Ratios}
 use Rattle.reader.specs.Reader.{fileSection}
 use Rattle.day.specs.Day.{counts, dayStages}
 use Rattle.day.specs.declared.Counts.{Counts}
@@ -22,11 +22,11 @@ flowsPart clearing = after (rowSize Prices 0) clearing
 abbrev pub volumesPart : List ℕ → List ℕ
 volumesPart clearing = after (rowSize Flows 0) (flowsPart clearing)
 
-abbrev pub takenPart : List ℕ → List ℕ
-takenPart clearing = after (rowSize Volumes 0) (volumesPart clearing)
+abbrev pub ratiosPart : List ℕ → List ℕ
+ratiosPart clearing = after (rowSize Volumes 0) (volumesPart clearing)
 
 abbrev pub endPart : List ℕ → List ℕ
-endPart clearing = after (rowSize Taken 0) (takenPart clearing)
+endPart clearing = after (rowSize Ratios 0) (ratiosPart clearing)
 
 -- ---- refusals 5 to 8, in the order in which they are looked for
 
@@ -44,7 +44,7 @@ clearingStages c clearing =
     clearingSection 1 Prices (c .zones * c .periods) clearing
     ++ clearingSection 2 Flows (c .lines * c .periods) (flowsPart clearing)
     ++ clearingSection 3 Volumes (c .steps) (volumesPart clearing)
-    ++ clearingSection 4 Taken (c .blocks) (takenPart clearing)
+    ++ clearingSection 4 Ratios (c .blocks) (ratiosPart clearing)
     ++ ended 8 (endPart clearing)
 
 -- ---- both files: the day file before the clearing file

@@ -11,19 +11,19 @@ use Rattle.stages.specs.declared.Place.{Place}
 use Rattle.stages.specs.declared.Fault.the-variants.{Broken, Clean}
 use Rattle.sections.specs.Section.{count, after, ended}
 use Rattle.sections.specs.Good.{ended-clean, part-length}
-use Rattle.wire.specs.Bytes.{u8At, u32At, i32At}
-use Rattle.limits.specs.Limits.{mostVolume}
+use Rattle.wire.specs.Bytes.{u16At, u32At, i32At}
+use Rattle.limits.specs.Limits.{mostVolume, mostRatio}
 use Rattle.rows.specs.Rows.{rowSize, rowStart}
-use Rattle.rows.specs.Sentences.{IsPrice, IsFlow, price-row, flow-row, volume-row, taken-row}
+use Rattle.rows.specs.Sentences.{IsPrice, IsFlow, price-row, flow-row, volume-row, ratio-row}
 use Rattle.rows.specs.declared.Kind.{Kind}
-use Rattle.rows.specs.declared.Kind.the-variants.{Prices, Flows, Volumes, Taken}
+use Rattle.rows.specs.declared.Kind.the-variants.{Prices, Flows, Volumes, Ratios}
 use Rattle.reader.specs.Reader.{GoodRows}
 use Rattle.reader.specs.Chain.{then-clean}
 use Rattle.day.specs.declared.Counts.{Counts}
 use Rattle.day.specs.Day.{counts, dayStages}
 use Rattle.day.specs.Good.{GoodDay, InLimits, in-limits, prices-most, flows-most, day-clean}
-use Rattle.clearing.specs.Clearing.{flowsPart, volumesPart, takenPart, endPart, clearingNumbers, clearingStages, fileStages, files, faultOf}
-use Rattle.clearing.specs.Chain.{fromFlows, fromVolumes, fromTaken}
+use Rattle.clearing.specs.Clearing.{flowsPart, volumesPart, ratiosPart, endPart, clearingNumbers, clearingStages, fileStages, files, faultOf}
+use Rattle.clearing.specs.Chain.{fromFlows, fromVolumes, fromRatios}
 use Rattle.clearing.specs.declared.Files.{Files}
 use Rattle.clearing.specs.declared.Files.the-variants.{Good, Bad}
 
@@ -37,7 +37,7 @@ pub record GoodClearing (c : Counts) (clearing : List ℕ) : Type 0 where
   pub prices-good : Asked Prices (c .zones * c .periods) clearing
   pub flows-good : Asked Flows (c .lines * c .periods) (flowsPart clearing)
   pub volumes-good : Asked Volumes (c .steps) (volumesPart clearing)
-  pub taken-good : Asked Taken (c .blocks) (takenPart clearing)
+  pub ratios-good : Asked Ratios (c .blocks) (ratiosPart clearing)
   pub no-more : length (endPart clearing) ≡ 0
 
 -- each count is the one that is asked
@@ -46,7 +46,7 @@ asked-is kind g = le-antisymm (g .at-most) (g .at-least)
 
 -- the bytes of a clearing file, by the day's counts
 abbrev pub clearingLength : Counts → ℕ
-clearingLength c = 2 + 4 * (c .zones * c .periods) + (2 + 4 * (c .lines * c .periods)) + (2 + 4 * c .steps) + (2 + 1 * c .blocks)
+clearingLength c = 2 + 4 * (c .zones * c .periods) + (2 + 4 * (c .lines * c .periods)) + (2 + 4 * c .steps) + (2 + 2 * c .blocks)
 
 -- ---- where all stages are clean
 
@@ -57,16 +57,16 @@ clearing-clean c clearing =
     let f = c .lines * c .periods in
     let c1 = then-clean clearingNumbers 1 Prices p p 0 0 clearing (fromFlows c (flowsPart clearing)) in
     let c2 = then-clean clearingNumbers 2 Flows f f 0 0 (flowsPart clearing) (fromVolumes c (volumesPart clearing)) in
-    let c3 = then-clean clearingNumbers 3 Volumes (c .steps) (c .steps) 0 0 (volumesPart clearing) (fromTaken c (takenPart clearing)) in
-    let c4 = then-clean clearingNumbers 4 Taken (c .blocks) (c .blocks) 0 0 (takenPart clearing) (ended 8 (endPart clearing)) in
+    let c3 = then-clean clearingNumbers 3 Volumes (c .steps) (c .steps) 0 0 (volumesPart clearing) (fromRatios c (ratiosPart clearing)) in
+    let c4 = then-clean clearingNumbers 4 Ratios (c .blocks) (c .blocks) 0 0 (ratiosPart clearing) (ended 8 (endPart clearing)) in
     let e = ended-clean 8 (endPart clearing) in (
       λ m.
           let m1 = c1 .0 m in
           let m2 = c2 .0 (m1 .1) in
           let m3 = c3 .0 (m2 .1) in
           let m4 = c4 .0 (m3 .1) in
-          record { prices-good = m1 .0; flows-good = m2 .0; volumes-good = m3 .0; taken-good = m4 .0; no-more = e .0 (m4 .1) },
-      λ g. c1 .1 (g .prices-good, c2 .1 (g .flows-good, c3 .1 (g .volumes-good, c4 .1 (g .taken-good, e .1 (g .no-more))))),
+          record { prices-good = m1 .0; flows-good = m2 .0; volumes-good = m3 .0; ratios-good = m4 .0; no-more = e .0 (m4 .1) },
+      λ g. c1 .1 (g .prices-good, c2 .1 (g .flows-good, c3 .1 (g .volumes-good, c4 .1 (g .ratios-good, e .1 (g .no-more))))),
     )
 
 pub files-clean : (day clearing : List ℕ) → Means (fileStages day clearing) Clean ↔ (GoodDay day × GoodClearing (counts day) clearing)
@@ -118,18 +118,18 @@ clearing-length c clearing g =
     (2 + 4 * (c .zones * c .periods))
     (2 + 4 * (c .lines * c .periods))
     (2 + 4 * c .steps)
-    (2 + 1 * c .blocks)
+    (2 + 2 * c .blocks)
     (part-is Prices (g .prices-good))
     (part-is Flows (g .flows-good))
     (part-is Volumes (g .volumes-good))
-    (part-is Taken (g .taken-good))
+    (part-is Ratios (g .ratios-good))
     (g .no-more)
 
-within : (c : Counts) → InLimits c → clearingLength c ≤ 10508
+within : (c : Counts) → InLimits c → clearingLength c ≤ 10608
 within c l = omega (arith, prices-most l, flows-most l)
 
 -- the largest clearing file
-pub clearing-longest : (day clearing : List ℕ) → GoodDay day → GoodClearing (counts day) clearing → length clearing ≤ 10508
+pub clearing-longest : (day clearing : List ℕ) → GoodDay day → GoodClearing (counts day) clearing → length clearing ≤ 10608
 clearing-longest day clearing d g = rw (clearing-length (counts day) clearing g) (within (counts day) (in-limits d))
 
 -- ---- each row obeys its rule, as a sentence
@@ -144,5 +144,5 @@ module _ {c : Counts} {clearing : List ℕ} (g : GoodClearing c clearing) {i : �
   pub good-volume : i < c .steps → u32At (volumesPart clearing) (rowStart Volumes 0 i) ≤ mostVolume
   good-volume l = volume-row 0 0 (volumesPart clearing) i .0 (g .volumes-good .rows i (rw (asked-is Volumes (g .volumes-good)) l))
 
-  pub good-taken : i < c .blocks → u8At (takenPart clearing) (rowStart Taken 0 i) ≤ 1
-  good-taken l = taken-row 0 0 (takenPart clearing) i .0 (g .taken-good .rows i (rw (asked-is Taken (g .taken-good)) l))
+  pub good-ratio : i < c .blocks → u16At (ratiosPart clearing) (rowStart Ratios 0 i) ≤ mostRatio
+  good-ratio l = ratio-row 0 0 (ratiosPart clearing) i .0 (g .ratios-good .rows i (rw (asked-is Ratios (g .ratios-good)) l))

@@ -10,7 +10,7 @@ ghost use Rattle.sections.specs.Section.{ended};
 ghost use Rattle.reader.specs.Reader.{readingAt};
 ghost use Rattle.day.specs.Good.{InLimits};
 ghost use Rattle.clearing.specs.Clearing.{clearingNumbers, clearingStages, fileStages, files, faultOf};
-ghost use Rattle.clearing.specs.Chain.{filesFrom, fromFlows, fromVolumes, fromTaken};
+ghost use Rattle.clearing.specs.Chain.{filesFrom, fromFlows, fromVolumes, fromRatios};
 
 // What the reader of both files answers: they read without fault, or the number and the place of the first fault.
 pub enum Files {
@@ -48,12 +48,12 @@ fn from_end(part: &[u8], counts: Counts) -> Files
     Files::Good(counts)
 }
 
-fn from_taken(part: &[u8], counts: Counts) -> Files
-    ensures { λ r. ⌜ r ≡ filesFrom counts (fromTaken counts (now (part .entry))) ⌝ }
+fn from_ratios(part: &[u8], counts: Counts) -> Files
+    ensures { λ r. ⌜ r ≡ filesFrom counts (fromRatios counts (now (part .entry))) ⌝ }
 {
-    match read_section(4, Kind::Taken, counts.blocks, part) {
+    match read_section(4, Kind::Ratios, counts.blocks, part) {
         Reading::Refused(k, p) => Files::Bad(k, p),
-        Reading::Good(n) => from_end(reader::rest(Kind::Taken, 0, part, n), counts),
+        Reading::Good(n) => from_end(reader::rest(Kind::Ratios, 0, part, n), counts),
     }
 }
 
@@ -62,7 +62,7 @@ fn from_volumes(part: &[u8], counts: Counts) -> Files
 {
     match read_section(3, Kind::Volumes, counts.steps, part) {
         Reading::Refused(k, p) => Files::Bad(k, p),
-        Reading::Good(n) => from_taken(reader::rest(Kind::Volumes, 0, part, n), counts),
+        Reading::Good(n) => from_ratios(reader::rest(Kind::Volumes, 0, part, n), counts),
     }
 }
 

@@ -31,6 +31,10 @@ mostFlow = 1000000
 abbrev pub mostVolume : ℕ
 mostVolume = 1000000
 
+-- a ratio is in thousandths: all of a block
+abbrev pub mostRatio : ℕ
+mostRatio = 1000
+
 -- any price: -1,000,000 to 1,000,000
 abbrev pub isPrice : ℤ → Bool
 isPrice p = leZ (negℤ (pos mostPrice)) p && leZ p (pos mostPrice)
@@ -42,6 +46,10 @@ isFlow f = leZ (negℤ (pos mostFlow)) f && leZ f (pos mostFlow)
 -- accepted volume, block quantity in a period, line capacity: 0 to 1,000,000
 abbrev pub isVolume : ℕ → Bool
 isVolume v = leb v mostVolume
+
+-- ratio, least ratio: 0 to 1,000
+abbrev pub isRatio : ℕ → Bool
+isRatio r = leb r mostRatio
 
 -- step quantity: 1 to 1,000,000
 abbrev pub isQuantity : ℕ → Bool

@@ -5,7 +5,7 @@ use mathlib.Core.List.{List, [], _∷_}
 use lib.Dec.{leb, ltb, eqb}
 use lib.IntN.{ℤ}
 use lib.Signed.{leZ}
-use Rattle.limits.specs.Limits.{isPrice, isQuantity}
+use Rattle.limits.specs.Limits.{isPrice, isRatio, isQuantity}
 
 -- 1. Periods: floor, ceiling; floor not above ceiling.
 abbrev pub periodRule : ℤ → ℤ → List Bool
@@ -30,6 +30,6 @@ stepRule zones periods zone period side spare price quantity =
     ∷ isQuantity quantity
     ∷ []
 
--- 5. Blocks: zone, side, a spare number that is 0, price; the quantities of the periods come after them.
+-- 5. Blocks: zone, side, least ratio, price; the quantities of the periods come after them.
 abbrev pub blockRule : ℕ → ℕ → ℕ → ℕ → ℤ → List Bool
-blockRule zones zone side spare price = ltb zone zones ∷ leb side 1 ∷ eqb spare 0 ∷ isPrice price ∷ []
+blockRule zones zone side least price = ltb zone zones ∷ leb side 1 ∷ isRatio least ∷ isPrice price ∷ []

@@ -19,6 +19,8 @@ pub const FLOW_MOST: i64 = 1000000;
 
 pub const VOLUME_MOST: u32 = 1000000;
 
+pub const RATIO_MOST: usize = 1000;
+
 pub const MOST_PERIODS: usize = 25;
 
 pub const MOST_ZONES: usize = 8;
@@ -102,13 +104,13 @@ pub fn step_field(
     first_failing(&tests)
 }
 
-pub fn block_field(zones: usize, zone: usize, side: usize, spare: usize, price: i64) -> Found
-    ensures { λ r. ⌜ r ≡ firstBad 4 (only (blockRule zones zone side spare price)) ⌝ }
+pub fn block_field(zones: usize, zone: usize, side: usize, least: usize, price: i64) -> Found
+    ensures { λ r. ⌜ r ≡ firstBad 4 (only (blockRule zones zone side least price)) ⌝ }
 {
     let tests = [
         zone < zones,
         side <= 1,
-        spare == 0,
+        least <= RATIO_MOST,
         (PRICE_LEAST <= price) & (price <= PRICE_MOST),
     ];
     first_failing(&tests)

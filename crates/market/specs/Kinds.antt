@@ -2,17 +2,19 @@
 --   priced: what the item's surplus is, of a step and of a block its margins times its volumes, of a line its rent;
 --   best: where the row obeys its rule, nothing that is allowed gives it a greater surplus, but for a block's part of the shortfall.
 -- Assumes nothing.
-use Prim.Native.Nat.{ℕ, zero, suc, _<_}
+use Prim.Native.Nat.{ℕ, zero, suc, _*_, _%_, _<_, _≤_}
+use native.Mathlib.Nat.{mul-comm, eq-or-lt-of-le}
 use native.Mathlib.Omega.{arith}
-use mathlib.Core.Path.{_≡_, refl, ap, _∙_}
-use mathlib.Core.Bool.{Bool, true, false, cond}
-use lib.IntN.{ℤ, pos, negsuc, negℤ, _+ℤ_, _-ℤ_, _*ℤ_, zero-*ℤ, *ℤ-zero}
-use Rattle.whole.specs.Whole.{_≼_, _≺_, sum, at}
-use Rattle.whole.specs.Ring.{given, linear, ring, ≼-refl, pos-≼, *-mono, *-anti, above-zero-above, above-zero-nonneg}
-use Rattle.whole.specs.Sums.{sums, sum-cong, sum-mono, sum-zero, sum-times-at}
+use mathlib.Core.Path.{_≡_, refl, sym, ap, _∙_}
+use mathlib.Core.Logic.{_⊎_, inl, inr}
+use lib.IntN.{ℤ, pos, negsuc, negℤ, _+ℤ_, _-ℤ_, _*ℤ_, zero-*ℤ, *ℤ-zero, *ℤ-comm}
+use Rattle.whole.specs.Whole.{_≼_, _≺_, sum, at, above-zero}
+use Rattle.whole.specs.Ring.{given, linear, ring, ≼-refl, ≼-of-<, ≼-or-<, pos-≼, *-swap, *-mono, *-anti, *-cancel, above-zero-above, above-zero-nonneg}
+use Rattle.whole.specs.Sums.{sums, sum-scale, sum-cong, sum-mono, sum-zero, sum-times-at}
+use Rattle.limits.specs.Limits.{mostRatio}
 use Rattle.market.specs.Market.{Day, Choice, Prices, blockVolume, stepTrade, blockTrade, ofSells, ofBuys, volumeAt, margin}
-use Rattle.market.specs.Market.{wholeSurplus, rentAt, missedOf, missed}
-use Rattle.market.specs.Rules.{CapacityAt, QuantityAt, StepAt, LineAt, BlockAt}
+use Rattle.market.specs.Market.{surplusOf, wholeSurplus, rentAt, leftSurplus, missed}
+use Rattle.market.specs.Rules.{CapacityAt, QuantityAt, WholeAt, StepAt, LineAt, BlockAt}
 use Rattle.market.specs.Margins.{sides, gains-is, loses-is, pays-is}
 use Rattle.market.specs.Items.{Item, all, over, surplus, surplus-all, paid-at}
 use Rattle.market.specs.declared.Side.{Side}
@@ -109,41 +111,81 @@ line-best d p c other l rule within = sum-mono (d .periods) _ _ λ h n.
 
 -- ==== a block
 
+-- a block with these volumes, one for each period
 unfoldable pub blockItem : Day → Choice → ℕ → Item
-blockItem d c k = all (d .periods) (λ h. tradeItem (blockTrade (d .block k) h (blockVolume (c .taken k) (d .quantity k h))))
+blockItem d c k = all (d .periods) (λ h. tradeItem (blockTrade (d .block k) h (blockVolume (c .ratio k) (d .quantity k h))))
 
-unfoldable pub blockSurplus : Day → Prices → Choice → ℕ → ℤ
-blockSurplus d p c k = sum (d .periods) (λ h. tradeSurplus p (blockTrade (d .block k) h (blockVolume (c .taken k) (d .quantity k h))))
+-- the surplus of what is accepted of it
+abbrev pub blockSurplus : Day → Prices → Choice → ℕ → ℤ
+blockSurplus d p c k = surplusOf d p k (λ h. pos (blockVolume (c .ratio k) (d .quantity k h)))
 
 pub block-priced : (d : Day) (p : Prices) (c : Choice) (k : ℕ) → d .block k .zone < d .zones →
     surplus d p (blockItem d c k) ≡ blockSurplus d p c k
-unfolding blockItem blockSurplus
+unfolding blockItem surplusOf
 block-priced d p c k l =
-    let trade : ℕ → Trade = λ h. blockTrade (d .block k) h (blockVolume (c .taken k) (d .quantity k h)) in
+    let trade : ℕ → Trade = λ h. blockTrade (d .block k) h (blockVolume (c .ratio k) (d .quantity k h)) in
     surplus-all d p (d .periods) (λ h. tradeItem (trade h)) ∙ sum-cong (d .periods) _ _ (λ h n. trade-priced d p (trade h) l n)
 
--- accepted, it has the whole block's surplus; rejected, none
-pub taken-is : (d : Day) (p : Prices) (c : Choice) (k : ℕ) → blockSurplus d p c k ≡ cond (c .taken k) (wholeSurplus d p k) (pos 0)
-unfolding blockSurplus wholeSurplus
-taken-is d p c k = by (c .taken k)
-  where
-    by : (taken : Bool) →
-        sum (d .periods) (λ h. tradeSurplus p (blockTrade (d .block k) h (blockVolume taken (d .quantity k h))))
-        ≡ cond taken (sum (d .periods) (λ h. tradeSurplus p (blockTrade (d .block k) h (d .quantity k h)))) (pos 0)
-    by true = refl
-    by false = simp (*ℤ-zero, sum-zero)
+-- a volume that is whole: a thousand of it is quantity times ratio
+a-thousand : (ratio quantity : ℕ) → quantity * ratio % mostRatio ≡ 0 → mostRatio * blockVolume ratio quantity ≡ ratio * quantity
+unfolding blockVolume
+a-thousand ratio quantity e = rw (mul-comm ratio quantity) (omega arith)
 
--- what is accepted does not lose, so leaving it gains no more; what is rejected misses no more than it would have gained
-missed-best : (taken other : Bool) (whole : ℤ) → (taken ≡ true → pos 0 ≼ whole) →
-    cond other whole (pos 0) ≼ cond taken whole (pos 0) +ℤ missedOf taken whole
-missed-best true true whole pays = given (above-zero-nonneg whole) (simp linear (omega arith))
-missed-best true false whole pays = given (pays refl) (given (above-zero-nonneg whole) (simp linear (omega arith)))
-missed-best false true whole pays = given (above-zero-above whole) (simp linear (omega arith))
-missed-best false false whole pays = given (above-zero-nonneg whole) (simp linear (omega arith))
+-- of nothing nothing
+no-volume : (quantity : ℕ) → blockVolume 0 quantity ≡ 0
+unfolding blockVolume
+no-volume quantity = omega arith
+
+module _ (d : Day) (p : Prices) (c : Choice) (k : ℕ) where
+  -- where its volumes are whole, a thousand times its surplus is its ratio of the whole block's
+  in-thousandths : ((h : ℕ) → h < d .periods → WholeAt d c k h) → pos mostRatio *ℤ blockSurplus d p c k ≡ pos (c .ratio k) *ℤ wholeSurplus d p k
+  unfolding surplusOf
+  in-thousandths whole =
+      simp (← sum-scale) (sum-cong (d .periods) _ _ (λ h n.
+      rw (*-swap (pos mostRatio) (unit h) (pos (volume h)), *-swap (pos (c .ratio k)) (unit h) (pos (d .quantity k h)))
+      (ap (λ (v : ℕ). unit h *ℤ pos v) (a-thousand (c .ratio k) (d .quantity k h) (whole h n)))))
+    where
+      unit : ℕ → ℤ
+      unit h = margin (d .block k .side) (d .block k .limit) (p (d .block k .zone) h)
+
+      volume : ℕ → ℕ
+      volume h = blockVolume (c .ratio k) (d .quantity k h)
+
+  -- rejected, it has none
+  none-taken : c .ratio k ≡ 0 → blockSurplus d p c k ≡ pos 0
+  unfolding surplusOf
+  none-taken e = rw e (simp (no-volume, *ℤ-zero, sum-zero))
+
+  -- accepted, the whole block does not lose
+  does-not-lose : BlockAt d p c k → 0 < c .ratio k → pos 0 ≼ wholeSurplus d p k
+  unfolding surplusOf
+  does-not-lose rule l = pays-is (d .periods) (d .block k .side) (d .block k .limit) (p (d .block k .zone)) (d .quantity k) .1 (rule l)
+
+  -- what is accepted and what is left are the whole
+  with-left : blockSurplus d p c k +ℤ leftSurplus d p c k ≡ wholeSurplus d p k
+  unfolding surplusOf
+  with-left = simp sums (simp linear (omega arith))
+
+-- A block whose whole surplus is not below zero has at most that surplus at any ratio, and what is accepted and what is left make it up. One
+-- whose whole surplus is below zero is rejected, and at no ratio gains.
+left-best : (other taken left whole : ℤ) (ratio mine : ℕ) → pos mostRatio *ℤ other ≡ pos ratio *ℤ whole → ratio ≤ mostRatio →
+    taken +ℤ left ≡ whole → (0 < mine → pos 0 ≼ whole) → (mine ≡ 0 → taken ≡ pos 0) → other ≼ taken +ℤ above-zero left
+left-best other taken left whole ratio mine thousand most sum pays none = by (≼-or-< (pos 0) whole) (eq-or-lt-of-le (omega arith))
+  where
+    by : (pos 0 ≼ whole) ⊎ (whole ≺ pos 0) → (0 ≡ mine) ⊎ (0 < mine) → other ≼ taken +ℤ above-zero left
+    by (inl w) _ =
+        let at-most : other ≼ whole = *-cancel (pos mostRatio) other whole (simp linear (omega arith))
+        (rw (thousand, *ℤ-comm (pos ratio) whole, *ℤ-comm (pos mostRatio) whole) (*-mono whole (pos ratio) (pos mostRatio) w (pos-≼ ratio mostRatio .1 most))) in
+        given at-most (given (above-zero-above left) (given sum (simp linear (omega arith))))
+    by (inr w) (inr l) = absurd (given (pays l) (given w (simp linear (omega arith))))
+    by (inr w) (inl z) =
+        let none-gained : other ≼ pos 0 = *-cancel (pos mostRatio) other (pos 0) (simp linear (omega arith))
+        (rw thousand (given (*-mono (pos ratio) whole (pos 0) (simp linear (omega arith)) (≼-of-< w)) (simp linear (omega arith)))) in
+        given none-gained (given (above-zero-nonneg left) (given (none (sym z)) (simp linear (omega arith))))
 
 pub block-best : (d : Day) (p : Prices) (c other : Choice) (k : ℕ) → BlockAt d p c k →
+    other .ratio k ≤ mostRatio → ((h : ℕ) → h < d .periods → WholeAt d other k h) →
     blockSurplus d p other k ≼ blockSurplus d p c k +ℤ missed d p c k
-unfolding wholeSurplus
-block-best d p c other k rule =
-    rw (taken-is d p c k, taken-is d p other k) (missed-best (c .taken k) (other .taken k) (wholeSurplus d p k)
-    (λ t. pays-is (d .periods) (d .block k .side) (d .block k .limit) (p (d .block k .zone)) (d .quantity k) .1 (rule t)))
+block-best d p c other k rule most whole =
+    left-best (blockSurplus d p other k) (blockSurplus d p c k) (leftSurplus d p c k) (wholeSurplus d p k) (other .ratio k) (c .ratio k)
+    (in-thousandths d p other k whole) most (with-left d p c k) (does-not-lose d p c k rule) (none-taken d p c k)

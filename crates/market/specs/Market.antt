@@ -1,10 +1,10 @@
 -- The trade with no bytes: a day, a choice of what is accepted, prices, and what they come to. Zones, periods and rows are numbered from 0.
 -- Prices are hundredths of a euro per MWh, volumes and flows tenths of a MW, so price times volume is in thousandths of a euro.
 -- Assumes nothing.
-use Prim.Native.Nat.{ℕ}
-use mathlib.Core.Bool.{Bool, true, false, cond}
+use Prim.Native.Nat.{ℕ, _*_, _/_}
 use lib.IntN.{ℤ, pos, _+ℤ_, _-ℤ_, _*ℤ_}
 use Rattle.whole.specs.Whole.{sum, at, above-zero}
+use Rattle.limits.specs.Limits.{mostRatio}
 use Rattle.market.specs.declared.Side.{Side}
 use Rattle.market.specs.declared.Side.the-variants.{Sell, Buy}
 use Rattle.market.specs.declared.Step.{Step}
@@ -36,8 +36,8 @@ pub record Day : Type 0 where
 pub record Choice : Type 0 where
   -- of a step: the accepted volume
   pub volume : ℕ → ℕ
-  -- of a block: accepted or rejected
-  pub taken : ℕ → Bool
+  -- of a block: the accepted ratio, the same in all its periods, in thousandths; 0 where it is rejected
+  pub ratio : ℕ → ℕ
   -- of a line and a period; above zero runs from "from" to "to"
   pub flow : ℕ → ℕ → ℤ
 
@@ -47,10 +47,9 @@ Prices = ℕ → ℕ → ℤ
 
 -- ---- what a choice accepts
 
--- a block is accepted whole or not at all
-abbrev pub blockVolume : Bool → ℕ → ℕ
-blockVolume true quantity = quantity
-blockVolume false quantity = 0
+-- An accepted volume is quantity times ratio over 1,000. That it is whole is rule 21.
+unfoldable pub blockVolume : ℕ → ℕ → ℕ
+blockVolume ratio quantity = quantity * ratio / mostRatio
 
 abbrev pub stepTrade : Step → ℕ → Trade
 stepTrade s volume = record { zone = s .zone; period = s .period; side = s .side; limit = s .limit; volume = volume }
@@ -81,7 +80,7 @@ module _ (d : Day) (c : Choice) where
   unfoldable pub accepted : (Trade → ℤ) → ℤ
   accepted f =
       sum (d .steps) (λ i. f (stepTrade (d .step i) (c .volume i)))
-      +ℤ sum (d .blocks) (λ k. sum (d .periods) (λ h. f (blockTrade (d .block k) h (blockVolume (c .taken k) (d .quantity k h)))))
+      +ℤ sum (d .blocks) (λ k. sum (d .periods) (λ h. f (blockTrade (d .block k) h (blockVolume (c .ratio k) (d .quantity k h)))))
 
   abbrev pub sells : (Trade → ℤ) → ℤ
   sells f = accepted (λ t. ofSells (t .side) (f t))
@@ -89,8 +88,8 @@ module _ (d : Day) (c : Choice) where
   abbrev pub buys : (Trade → ℤ) → ℤ
   buys f = accepted (λ t. ofBuys (t .side) (f t))
 
-  -- Supply of a zone and period: accepted sell steps there, plus the quantities for that period of accepted sell blocks there. Demand
-  -- likewise for buys. Net position is supply less demand.
+  -- Supply of a zone and period: accepted sell steps there, plus the accepted volumes for that period of sell blocks there. Demand likewise
+  -- for buys. Net position is supply less demand.
   abbrev pub supply : ℕ → ℕ → ℤ
   supply zone period = sells (volumeAt zone period)
 
@@ -109,10 +108,6 @@ module _ (d : Day) (c : Choice) where
 
 -- ---- the totals
 
--- what a block misses that would have this surplus whole: nothing where it is accepted
-abbrev pub missedOf : Bool → ℤ → ℤ
-missedOf taken surplus = cond taken (pos 0) (above-zero surplus)
-
 module _ (d : Day) (c : Choice) where
   -- Order value: limit times accepted volume over buys, less the same over sells, blocks included.
   abbrev pub orderValue : ℤ
@@ -123,10 +118,13 @@ module _ (d : Day) (c : Choice) where
   tradedVolume = buys d c (λ t. pos (t .volume))
 
 module _ (d : Day) (p : Prices) where
-  -- the surplus that the whole block would have at the stated prices, each period at its zone's price
-  unfoldable pub wholeSurplus : ℕ → ℤ
-  wholeSurplus k =
-      sum (d .periods) (λ h. margin (d .block k .side) (d .block k .limit) (p (d .block k .zone) h) *ℤ pos (d .quantity k h))
+  -- the surplus that a block has with these volumes, one for each period, at the stated prices, each period at its zone's price
+  unfoldable pub surplusOf : ℕ → (ℕ → ℤ) → ℤ
+  surplusOf k volume = sum (d .periods) (λ h. margin (d .block k .side) (d .block k .limit) (p (d .block k .zone) h) *ℤ volume h)
+
+  -- that the whole block has
+  abbrev pub wholeSurplus : ℕ → ℤ
+  wholeSurplus k = surplusOf k (λ h. pos (d .quantity k h))
 
 module _ (d : Day) (p : Prices) (c : Choice) where
   -- Buyer surplus: (limit - price) times accepted volume over buys.
@@ -144,9 +142,13 @@ module _ (d : Day) (p : Prices) (c : Choice) where
   unfoldable pub rent : ℤ
   rent = sum (d .lines) (λ l. sum (d .periods) (λ h. rentAt l h))
 
-  -- Shortfall: over the rejected blocks, the surplus that the whole block would have had at the stated prices, where above zero, else 0.
+  -- Shortfall: over the blocks, the surplus at the stated prices of what is left unaccepted of the block, over all its periods together,
+  -- where above zero, else 0.
+  abbrev pub leftSurplus : ℕ → ℤ
+  leftSurplus k = surplusOf d p k (λ h. pos (d .quantity k h) -ℤ pos (blockVolume (c .ratio k) (d .quantity k h)))
+
   abbrev pub missed : ℕ → ℤ
-  missed k = missedOf (c .taken k) (wholeSurplus d p k)
+  missed k = above-zero (leftSurplus k)
 
   unfoldable pub shortfall : ℤ
   shortfall = sum (d .blocks) missed

@@ -1,18 +1,17 @@
 -- The sums of what is counted are the totals and the net positions; and how large they, and the sums a loop meets on the way, can be.
 -- Assumes nothing.
-use Prim.Native.Nat.{ℕ, _<_, _≤_}
-use native.Mathlib.Nat.{le-trans, le-refl}
+use Prim.Native.Nat.{ℕ, _*_, _<_, _≤_}
+use native.Mathlib.Nat.{le-trans, le-refl, mul-le-mul}
 use native.Mathlib.Omega.{arith}
 use mathlib.Core.Path.{_≡_, refl, sym, _∙_}
-use mathlib.Core.Bool.{Bool, true, false}
 use lib.IntN.{ℤ, pos, negℤ, natAbs, _+ℤ_, _-ℤ_, _*ℤ_}
 use Rattle.whole.specs.Whole.{sum, at}
 use Rattle.whole.specs.Ring.{linear, ring}
 use Rattle.whole.specs.Sums.{sums, sum-cong}
 use Rattle.whole.specs.Size.{abs-neg, abs--, abs-*-≤, at-size, above-zero-size, sum-within}
-use Rattle.limits.specs.Limits.{mostPeriods, mostLines, mostSteps, mostBlocks, mostPrice, mostFlow, mostVolume}
+use Rattle.limits.specs.Limits.{mostPeriods, mostLines, mostSteps, mostBlocks, mostPrice, mostFlow, mostVolume, mostRatio}
 use Rattle.market.specs.Market.{Day, Choice, Prices, blockVolume, stepTrade, blockTrade, ofSells, ofBuys, volumeAt, margin}
-use Rattle.market.specs.Market.{accepted, netPosition, leaving, entering, orderValue, tradedVolume, wholeSurplus, missedOf, missed}
+use Rattle.market.specs.Market.{accepted, netPosition, leaving, entering, orderValue, tradedVolume, surplusOf, wholeSurplus, leftSurplus, missed}
 use Rattle.market.specs.Market.{buyerSurplus, sellerSurplus, rentAt}
 use Rattle.market.specs.Range.{Placed, Ranged}
 use Rattle.market.specs.Margins.{accepted-cong, accepted-minus}
@@ -70,7 +69,7 @@ module _ (d : Day) (p : Prices) (c : Choice) where
   net-is zone period = accepted-cong d c _ _ (λ t. sold-less-bought (t .side) (volumeAt zone period t)) ∙ sym (accepted-minus d c _ _)
 
   pub accepted-is : (m : Measure) →
-      accepted d c (priced m p) ≡ sum (d .steps) (stepMeasured d p c m) +ℤ sum (d .blocks) (λ k. blockMeasured d p m k (c .taken k))
+      accepted d c (priced m p) ≡ sum (d .steps) (stepMeasured d p c m) +ℤ sum (d .blocks) (λ k. blockMeasured d p m k (c .ratio k))
   unfolding accepted stepMeasured blockMeasured
   accepted-is m = refl
 
@@ -78,10 +77,25 @@ pub net-flow-is : (d : Day) (c : Choice) (zone period : ℕ) →
     sum (d .lines) (lineLeaves d c zone period) ≡ leaving d c zone period -ℤ entering d c zone period
 net-flow-is d c zone period = simp sums (simp linear (omega arith))
 
+-- a block accepted whole
+pub whole-volume : (quantity : ℕ) → blockVolume mostRatio quantity ≡ quantity
+unfolding blockVolume
+whole-volume quantity = omega arith
+
 module _ (d : Day) (p : Prices) where
-  pub whole-is : (k : ℕ) → blockMeasured d p Surplus k true ≡ wholeSurplus d p k
-  unfolding measured blockMeasured wholeSurplus
-  whole-is k = let b = d .block k in sum-cong _ _ _ (λ h _. surplus-at (b .side) (b .limit) (p (b .zone) h) (d .quantity k h))
+  -- the surplus of what a ratio accepts of a block, and of the whole block
+  part-is : (k ratio : ℕ) → blockMeasured d p Surplus k ratio ≡ surplusOf d p k (λ h. pos (blockVolume ratio (d .quantity k h)))
+  unfolding measured blockMeasured surplusOf
+  part-is k ratio =
+      let b = d .block k in sum-cong _ _ _ (λ h _. surplus-at (b .side) (b .limit) (p (b .zone) h) (blockVolume ratio (d .quantity k h)))
+
+  pub whole-is : (k : ℕ) → blockMeasured d p Surplus k mostRatio ≡ wholeSurplus d p k
+  whole-is k = part-is k mostRatio ∙ simp whole-volume
+
+  -- the surplus of what is left is that of the whole less that of what is accepted
+  pub left-is : (c : Choice) (k : ℕ) → leftSurplus d p c k ≡ wholeSurplus d p k -ℤ blockMeasured d p Surplus k (c .ratio k)
+  unfolding surplusOf
+  left-is c k = rw (part-is k (c .ratio k)) (simp sums (simp linear (omega arith)))
 
 -- ---- how large: one trade
 
@@ -92,6 +106,14 @@ gap-size x y a b = omega (arith, abs-- x y)
 pub net-flow-size : (from to zone : ℕ) (flow : ℤ) → natAbs flow ≤ mostFlow → natAbs (at from flow zone -ℤ at to flow zone) ≤ 2000000
 net-flow-size from to zone flow h =
     gap-size (at from flow zone) (at to flow zone) (le-trans (at-size from flow zone) h) (le-trans (at-size to flow zone) h)
+
+-- a quantity times a ratio, and what the ratio accepts of it
+pub thousandths-most : (ratio quantity : ℕ) → ratio ≤ mostRatio → quantity ≤ mostVolume → quantity * ratio ≤ 1000000000
+thousandths-most ratio quantity r q = mul-le-mul {n₂ = mostVolume} {m₂ = mostRatio} q r
+
+volume-most : (ratio quantity : ℕ) → ratio ≤ mostRatio → quantity ≤ mostVolume → blockVolume ratio quantity ≤ mostVolume
+unfolding blockVolume
+volume-most ratio quantity r q = omega (arith, thousandths-most ratio quantity r q)
 
 module _ (t : Trade) (price : ℤ) (small : Small t price) where
   gain-size : (get ask : ℤ) → natAbs get ≤ mostPrice → natAbs ask ≤ mostPrice → natAbs (gain get ask (t .volume)) ≤ 2000000000000
@@ -136,17 +158,13 @@ module _ (d : Day) (p : Prices) (c : Choice) (placed : Placed d) (ranged : Range
     volume-small = ranged .volume i l;
   }
 
-  pub block-small : (k h : ℕ) → k < d .blocks → h < d .periods → (taken : Bool) →
-      Small (blockTrade (d .block k) h (blockVolume taken (d .quantity k h))) (p (d .block k .zone) h)
-  block-small k h l n taken = record {
+  pub block-small : (k h ratio : ℕ) → k < d .blocks → h < d .periods → ratio ≤ mostRatio →
+      Small (blockTrade (d .block k) h (blockVolume ratio (d .quantity k h))) (p (d .block k .zone) h)
+  block-small k h ratio l n r = record {
     limit-small = placed .block-limit k l;
     price-small = ranged .price _ _ (placed .block-zone k l) n;
-    volume-small = by taken;
+    volume-small = volume-most ratio (d .quantity k h) r (placed .block-quantity k h l n);
   }
-    where
-      by : (taken : Bool) → blockVolume taken (d .quantity k h) ≤ mostVolume
-      by true = placed .block-quantity k h l n
-      by false = omega arith
 
   module _ (m : Measure) where
     pub step-size : (i : ℕ) → i < d .steps → natAbs (stepMeasured d p c m i) ≤ 2000000000000
@@ -156,33 +174,34 @@ module _ (d : Day) (p : Prices) (c : Choice) (placed : Placed d) (ranged : Range
     pub steps-size : (n : ℕ) → n ≤ d .steps → natAbs (sum n (stepMeasured d p c m)) ≤ 4000000000000000
     steps-size n l = sum-within n mostSteps _ 2000000000000 (le-trans l (placed .steps-most)) (λ i j. step-size i (le-trans j l))
 
-    pub block-part-size : (n k : ℕ) (taken : Bool) → n ≤ d .periods → k < d .blocks →
-        natAbs (sum n (λ h. priced m p (blockTrade (d .block k) h (blockVolume taken (d .quantity k h))))) ≤ 50000000000000
-    block-part-size n k taken l i =
+    pub block-part-size : (n k ratio : ℕ) → n ≤ d .periods → k < d .blocks → ratio ≤ mostRatio →
+        natAbs (sum n (λ h. priced m p (blockTrade (d .block k) h (blockVolume ratio (d .quantity k h))))) ≤ 50000000000000
+    block-part-size n k ratio l i r =
         sum-within n mostPeriods _ 2000000000000 (le-trans l (placed .periods-most))
-        (λ h j. measured-size m _ _ (block-small k h i (le-trans j l) taken))
+        (λ h j. measured-size m _ _ (block-small k h ratio i (le-trans j l) r))
 
-    pub block-size : (k : ℕ) (taken : Bool) → k < d .blocks → natAbs (blockMeasured d p m k taken) ≤ 50000000000000
+    pub block-size : (k ratio : ℕ) → k < d .blocks → ratio ≤ mostRatio → natAbs (blockMeasured d p m k ratio) ≤ 50000000000000
     unfolding blockMeasured
-    block-size k taken i = block-part-size (d .periods) k taken (le-refl (d .periods)) i
+    block-size k ratio i r = block-part-size (d .periods) k ratio (le-refl (d .periods)) i r
 
-    pub blocks-size : (n : ℕ) → n ≤ d .blocks → natAbs (sum n (λ k. blockMeasured d p m k (c .taken k))) ≤ 5000000000000000
+    pub blocks-size : (n : ℕ) → n ≤ d .blocks → natAbs (sum n (λ k. blockMeasured d p m k (c .ratio k))) ≤ 5000000000000000
     blocks-size n l =
-        sum-within n mostBlocks _ 50000000000000 (le-trans l (placed .blocks-most)) (λ k j. block-size k (c .taken k) (le-trans j l))
+        sum-within n mostBlocks _ 50000000000000 (le-trans l (placed .blocks-most))
+        (λ k j. block-size k (c .ratio k) (le-trans j l) (ranged .ratio k (le-trans j l)))
 
   pub whole-size : (k : ℕ) → k < d .blocks → natAbs (wholeSurplus d p k) ≤ 50000000000000
-  whole-size k l = rw (whole-is d p k) at (block-size Surplus k true l)
+  whole-size k l = rw (whole-is d p k) at (block-size Surplus k mostRatio l (le-refl mostRatio))
 
-  pub missed-one-size : (k : ℕ) → k < d .blocks → natAbs (missed d p c k) ≤ 50000000000000
-  missed-one-size k l = by (c .taken k)
-    where
-      by : (taken : Bool) → natAbs (missedOf taken (wholeSurplus d p k)) ≤ 50000000000000
-      by true = omega (arith, above-zero-size (wholeSurplus d p k), whole-size k l)
-      by false = omega (arith, above-zero-size (wholeSurplus d p k), whole-size k l)
+  pub left-size : (k : ℕ) → k < d .blocks → natAbs (leftSurplus d p c k) ≤ 100000000000000
+  left-size k l =
+      let whole = wholeSurplus d p k in
+      let taken = blockMeasured d p Surplus k (c .ratio k) in
+      rw (left-is d p c k) (omega (arith, abs-- whole taken, whole-size k l, block-size Surplus k (c .ratio k) l (ranged .ratio k l)))
 
-  pub missed-size : (n : ℕ) → n ≤ d .blocks → natAbs (sum n (missed d p c)) ≤ 5000000000000000
+  pub missed-size : (n : ℕ) → n ≤ d .blocks → natAbs (sum n (missed d p c)) ≤ 10000000000000000
   missed-size n l =
-      sum-within n mostBlocks _ 50000000000000 (le-trans l (placed .blocks-most)) (λ k j. missed-one-size k (le-trans j l))
+      sum-within n mostBlocks _ 100000000000000 (le-trans l (placed .blocks-most))
+      (λ k j. le-trans (above-zero-size (leftSurplus d p c k)) (left-size k (le-trans j l)))
 
   pub rent-size : (l h : ℕ) → l < d .lines → h < d .periods → natAbs (rentAt d p c l h) ≤ 2000000000000
   rent-size l h i j =

@@ -1,6 +1,5 @@
 -- What is counted of one trade at its price, and of a line, as the code counts it. Assumes nothing.
 use Prim.Native.Nat.{ℕ, _≤_}
-use mathlib.Core.Bool.{Bool}
 use lib.IntN.{ℤ, pos, negℤ, natAbs, _-ℤ_, _*ℤ_}
 use Rattle.limits.specs.Limits.{mostPrice, mostVolume}
 use Rattle.whole.specs.Whole.{sum, at}
@@ -48,13 +47,13 @@ pub record Small (t : Trade) (price : ℤ) : Type 0 where
   pub price-small : natAbs price ≤ mostPrice
   pub volume-small : t .volume ≤ mostVolume
 
--- what is counted of a step, and of a block over its periods where it is accepted or rejected
+-- what is counted of a step, and of a block over its periods with a ratio
 module _ (d : Day) (p : Prices) where
   unfoldable pub stepMeasured : Choice → Measure → ℕ → ℤ
   stepMeasured c m i = priced m p (stepTrade (d .step i) (c .volume i))
 
-  unfoldable pub blockMeasured : Measure → ℕ → Bool → ℤ
-  blockMeasured m k taken = sum (d .periods) (λ h. priced m p (blockTrade (d .block k) h (blockVolume taken (d .quantity k h))))
+  unfoldable pub blockMeasured : Measure → ℕ → ℕ → ℤ
+  blockMeasured m k ratio = sum (d .periods) (λ h. priced m p (blockTrade (d .block k) h (blockVolume ratio (d .quantity k h))))
 
 -- what a line takes from a zone in a period: its flow where the zone is "from", less its flow where it is "to"
 abbrev pub lineLeaves : Day → Choice → ℕ → ℕ → ℕ → ℤ

@@ -3,7 +3,7 @@
 use Prim.Native.Nat.{ℕ, _<_, _≤_}
 use lib.IntN.{pos, natAbs}
 use Rattle.whole.specs.Whole.{_≼_}
-use Rattle.limits.specs.Limits.{mostPeriods, mostZones, mostLines, mostSteps, mostBlocks, mostPrice, mostFlow, mostVolume}
+use Rattle.limits.specs.Limits.{mostPeriods, mostZones, mostLines, mostSteps, mostBlocks, mostPrice, mostFlow, mostVolume, mostRatio}
 use Rattle.market.specs.Market.{Day, Choice, Prices}
 
 -- a day
@@ -29,3 +29,4 @@ pub record Ranged (d : Day) (p : Prices) (c : Choice) : Type 0 where
   pub price : (z h : ℕ) → z < d .zones → h < d .periods → natAbs (p z h) ≤ mostPrice
   pub flow : (l h : ℕ) → l < d .lines → h < d .periods → natAbs (c .flow l h) ≤ mostFlow
   pub volume : (i : ℕ) → i < d .steps → c .volume i ≤ mostVolume
+  pub ratio : (k : ℕ) → k < d .blocks → c .ratio k ≤ mostRatio

@@ -1,27 +1,30 @@
 -- The tests of the rules are their sentences, and what a choice has that obeys them. Assumes nothing.
-use Prim.Native.Nat.{ℕ, _<_}
+use Prim.Native.Nat.{ℕ, zero, suc, _*_, _%_, _<_, _≤_}
 use native.Mathlib.Omega.{arith}
 use mathlib.Core.Path.{_≡_, refl}
 use mathlib.Core.Logic.{_↔_, _⊎_, inl, inr, Iff·rfl}
-use mathlib.Core.Bool.{Bool, true, false, _||_, not}
-use mathlib.Core.List.{[], _∷_}
+use mathlib.Core.Bool.{Bool, true, false, _||_}
+use mathlib.Core.List.{List, [], _∷_}
+use lib.Dec.{eqb}
+use borrow.Author.Tests.{ne-eqb}
 use lib.IntN.{ℤ, pos, negℤ, _-ℤ_, _*ℤ_}
 use Rattle.whole.specs.Whole.{_≼_, _≺_}
 use Rattle.whole.specs.Ring.{given, linear, ring, leZ-true, leZ-false, ≼-refl, ≼-antisym, ≼-or-<, *-nonneg, above-zero-nonneg}
 use Rattle.whole.specs.Sums.{sum-nonneg}
 use Rattle.stages.specs.First.{both, apart, leb-is, eqb-is}
-use Rattle.stages.specs.Stage.{Holds, Means, means, firstFault}
+use Rattle.stages.specs.Stage.{Stage, Holds, Means, means, firstFault}
 use Rattle.stages.specs.declared.Fault.the-variants.{Clean}
-use Rattle.market.specs.Market.{Day, Choice, Prices, wholeSurplus, rent, missedOf, shortfall}
+use Rattle.market.specs.Market.{Day, Choice, Prices, surplusOf, rent, shortfall}
+use Rattle.limits.specs.Limits.{mostRatio}
 use Rattle.market.specs.Other.{Allowed}
 use Rattle.market.specs.Range.{Placed}
 use Rattle.market.specs.Margins.{pays-is}
-use Rattle.market.specs.Rules.{InTheMoney, OutOfTheMoney, Lawful, equal, stepOk, lineOk, blockOk, test, Obeys}
+use Rattle.market.specs.Rules.{InTheMoney, OutOfTheMoney, Lawful, equal, stepOk, lineOk, ratioOk, wholeOk, blockOk, test, Obeys}
 use Rattle.market.specs.Rules.{rows, columns, ruleStage, ruleStages}
 use Rattle.market.specs.declared.Side.{Side}
 use Rattle.market.specs.declared.Side.the-variants.{Sell, Buy}
 use Rattle.market.specs.declared.Rule.{Rule}
-use Rattle.market.specs.declared.Rule.the-variants.{Price, Capacity, Quantity, Balance, Step, Line, Block}
+use Rattle.market.specs.declared.Rule.the-variants.{Price, Capacity, Quantity, Ratio, Whole, Balance, Step, Line, Block}
 
 -- ---- a test's answer, as a fact
 
@@ -29,9 +32,9 @@ unless : (a b : Bool) → ((a || b) ≡ true) ↔ (a ≡ false → b ≡ true)
 unless true b = (λ _ e. apart refl e, λ _. refl)
 unless false b = (λ e _. e, λ h. h refl)
 
-not-false : (b : Bool) → (not b ≡ false) ↔ (b ≡ true)
-not-false true = (λ _. refl, λ _. refl)
-not-false false = (λ e. apart refl e, λ e. apart e refl)
+above-none : (n : ℕ) → (eqb n 0 ≡ false) ↔ (0 < n)
+above-none zero = (λ e. apart refl e, λ l. absurd (omega (arith, l)))
+above-none (suc n) = (λ _. omega arith, λ _. ne-eqb (suc n) 0 (λ e. omega (arith, e)))
 
 -- a test fails just where what it tests does not hold
 fails : {A : Type 0} (b : Bool) → (b ≡ true) ↔ A → (b ≡ false) ↔ ¬ A
@@ -42,7 +45,7 @@ equal-is : (a b : ℤ) → (equal a b ≡ true) ↔ (a ≡ b)
 equal-is a b = simp both (simp linear (omega arith))
 
 -- simp takes the first that fits, so the more special stands first
-ruleset tests = (equal-is, both, unless, not-false, leb-is, eqb-is, leZ-true, leZ-false)
+ruleset tests = (equal-is, both, unless, above-none, leb-is, eqb-is, leZ-true, leZ-false)
 
 -- ---- the tests are the sentences
 
@@ -53,10 +56,12 @@ step-is Buy limit price quantity volume = simp tests Iff·rfl
 
 module _ (d : Day) (p : Prices) (c : Choice) where
   pub test-is : (rule : Rule) (row col : ℕ) → (test d p c rule row col ≡ true) ↔ Obeys d p c rule row col
-  unfolding test wholeSurplus
+  unfolding test surplusOf
   test-is Price zone period = simp tests Iff·rfl
   test-is Capacity l period = simp tests (λ h. (h .1, h .0), λ h. (h .1, h .0))
   test-is Quantity i _ = leb-is _ _
+  test-is Ratio k _ = simp tests Iff·rfl
+  test-is Whole k period = eqb-is _ _
   test-is Balance zone period = equal-is _ _
   test-is Step i _ = let s = d .step i in step-is (s .side) (s .limit) (p (s .zone) (s .period)) (s .quantity) (c .volume i)
   test-is Line l period = simp tests Iff·rfl
@@ -72,49 +77,72 @@ module _ (d : Day) (p : Prices) (c : Choice) where
     λ h row col l m. test-is rule row col .1 (h row col l m),
   )
 
-  pub lawful-is : Means (ruleStages d p c) Clean ↔ Lawful d p c
-  lawful-is = (
-    λ m. record {
-      price-rule = rule-holds Price .0 (m .0);
-      capacity-rule = rule-holds Capacity .0 (m .1 .0);
-      quantity-rule = λ i l. rule-holds Quantity .0 (m .1 .1 .0) i 0 l (omega arith);
-      balance-rule = rule-holds Balance .0 (m .1 .1 .1 .0);
-      step-rule = λ i l. rule-holds Step .0 (m .1 .1 .1 .1 .0) i 0 l (omega arith);
-      line-rule = rule-holds Line .0 (m .1 .1 .1 .1 .1 .0);
-      block-rule = λ k l. rule-holds Block .0 (m .1 .1 .1 .1 .1 .1 .0) k 0 l (omega arith);
-    },
-    λ h. (
-      rule-holds Price .1 (h .price-rule),
-      (
-        rule-holds Capacity .1 (h .capacity-rule),
-        (
-          rule-holds Quantity .1 (λ i _ l _. h .quantity-rule i l),
-          (
-            rule-holds Balance .1 (h .balance-rule),
-            (
-              rule-holds Step .1 (λ i _ l _. h .step-rule i l),
-              (
-                rule-holds Line .1 (h .line-rule),
-                (
-                  rule-holds Block .1 (λ k _ l _. h .block-rule k l),
-                  tt,
-                ),
-              ),
-            ),
-          ),
-        ),
-      ),
-    ),
+  -- all stages are clean where each rule holds
+  clean-is : Means (ruleStages d p c) Clean ↔ ((rule : Rule) → Holds (ruleStage d p c rule))
+  clean-is = (
+    each,
+    λ h. (h Price, (h Capacity, (h Quantity, (h Ratio, (h Whole, (h Balance, (h Step, (h Line, (h Block, tt))))))))),
   )
+    where
+      each : Means (ruleStages d p c) Clean → (rule : Rule) → Holds (ruleStage d p c rule)
+      each m Price = m .0
+      each m Capacity = m .1 .0
+      each m Quantity = m .1 .1 .0
+      each m Ratio = m .1 .1 .1 .0
+      each m Whole = m .1 .1 .1 .1 .0
+      each m Balance = m .1 .1 .1 .1 .1 .0
+      each m Step = m .1 .1 .1 .1 .1 .1 .0
+      each m Line = m .1 .1 .1 .1 .1 .1 .1 .0
+      each m Block = m .1 .1 .1 .1 .1 .1 .1 .1 .0
 
-  -- a choice is allowed where the tests pass that speak of no price
-  pub tests-allow : firstFault (ruleStage d p c Capacity ∷ ruleStage d p c Quantity ∷ ruleStage d p c Balance ∷ []) ≡ Clean → Allowed d c
-  tests-allow e =
-      let m = means (ruleStage d p c Capacity ∷ ruleStage d p c Quantity ∷ ruleStage d p c Balance ∷ []) Clean .0 e in
+  pub lawful-is : Means (ruleStages d p c) Clean ↔ Lawful d p c
+  lawful-is = (λ m. lawful (clean-is .0 m), λ h. clean-is .1 (holds h))
+    where
+      lawful : ((rule : Rule) → Holds (ruleStage d p c rule)) → Lawful d p c
+      lawful h = record {
+        price-rule = rule-holds Price .0 (h Price);
+        capacity-rule = rule-holds Capacity .0 (h Capacity);
+        quantity-rule = λ i l. rule-holds Quantity .0 (h Quantity) i 0 l (omega arith);
+        ratio-rule = λ k l. rule-holds Ratio .0 (h Ratio) k 0 l (omega arith);
+        whole-rule = rule-holds Whole .0 (h Whole);
+        balance-rule = rule-holds Balance .0 (h Balance);
+        step-rule = λ i l. rule-holds Step .0 (h Step) i 0 l (omega arith);
+        line-rule = rule-holds Line .0 (h Line);
+        block-rule = λ k l. rule-holds Block .0 (h Block) k 0 l (omega arith);
+      }
+
+      holds : Lawful d p c → (rule : Rule) → Holds (ruleStage d p c rule)
+      holds h Price = rule-holds Price .1 (h .price-rule)
+      holds h Capacity = rule-holds Capacity .1 (h .capacity-rule)
+      holds h Quantity = rule-holds Quantity .1 (λ i _ l _. h .quantity-rule i l)
+      holds h Ratio = rule-holds Ratio .1 (λ k _ l _. h .ratio-rule k l)
+      holds h Whole = rule-holds Whole .1 (h .whole-rule)
+      holds h Balance = rule-holds Balance .1 (h .balance-rule)
+      holds h Step = rule-holds Step .1 (λ i _ l _. h .step-rule i l)
+      holds h Line = rule-holds Line .1 (h .line-rule)
+      holds h Block = rule-holds Block .1 (λ k _ l _. h .block-rule k l)
+
+  -- the rules that speak of no price
+  abbrev priceless : List Stage
+  priceless =
+      ruleStage d p c Capacity
+      ∷ ruleStage d p c Quantity
+      ∷ ruleStage d p c Ratio
+      ∷ ruleStage d p c Whole
+      ∷ ruleStage d p c Balance
+      ∷ []
+
+  -- a choice is allowed where their tests pass
+  pub tests-allow : ((k : ℕ) → k < d .blocks → c .ratio k ≤ mostRatio) → firstFault priceless ≡ Clean → Allowed d c
+  tests-allow most e =
+      let m = means priceless Clean .0 e in
       record {
         quantities = λ i l. rule-holds Quantity .0 (m .1 .0) i 0 l (omega arith);
         capacities = rule-holds Capacity .0 (m .0);
-        balance = rule-holds Balance .0 (m .1 .1 .0);
+        ratios = λ k l. rule-holds Ratio .0 (m .1 .1 .0) k 0 l (omega arith);
+        ratios-most = most;
+        whole = rule-holds Whole .0 (m .1 .1 .1 .0);
+        balance = rule-holds Balance .0 (m .1 .1 .1 .1 .0);
       }
 
 -- ---- what follows
@@ -128,9 +156,14 @@ at-the-price-any-volume Buy limit quantity volume = rw (leZ-true limit limit .1 
 pub at-equal-prices-any-flow : (forward least price flow : ℤ) → lineOk forward least price price flow ≡ true
 at-equal-prices-any-flow forward least price flow = rw (leZ-true price price .1 (≼-refl price))
 
--- a rejected block is never refused
-pub rejected-never-refused : (surplus : ℤ) → blockOk false surplus ≡ true
-rejected-never-refused surplus = refl
+-- a rejected block is never refused, whatever its least ratio, its quantities and its surplus
+pub rejected-never-refused : (least quantity : ℕ) (surplus : ℤ) →
+    (ratioOk least 0 ≡ true) × ((wholeOk 0 quantity ≡ true) × (blockOk 0 surplus ≡ true))
+rejected-never-refused least quantity surplus = (refl, (eqb-is (quantity * 0 % mostRatio) 0 .1 (omega arith), refl))
+
+-- a block that is accepted whole has whole volumes
+pub whole-is-whole : (quantity : ℕ) → wholeOk mostRatio quantity ≡ true
+whole-is-whole quantity = eqb-is (quantity * mostRatio % mostRatio) 0 .1 (omega arith)
 
 -- flow runs towards the dearer end, so it earns
 earns : (flow forward back from to : ℤ) → pos 0 ≼ forward → pos 0 ≼ back → (from ≺ to → flow ≡ forward) → (to ≺ from → flow ≡ negℤ back) →
@@ -151,8 +184,4 @@ module _ (d : Day) (p : Prices) (c : Choice) where
 
   pub shortfall-nonneg : pos 0 ≼ shortfall d p c
   unfolding shortfall
-  shortfall-nonneg = sum-nonneg _ _ (λ k _. by (c .taken k) (wholeSurplus d p k))
-    where
-      by : (taken : Bool) (surplus : ℤ) → pos 0 ≼ missedOf taken surplus
-      by true surplus = given (above-zero-nonneg surplus) (simp linear (omega arith))
-      by false surplus = given (above-zero-nonneg surplus) (simp linear (omega arith))
+  shortfall-nonneg = sum-nonneg _ _ (λ k _. above-zero-nonneg _)

@@ -9,14 +9,14 @@ use lib.IntN.{ℤ, pos, _+ℤ_}
 use Rattle.whole.specs.Whole.{_≼_, sum}
 use Rattle.whole.specs.Ring.{given, linear}
 use Rattle.whole.specs.Sums.{sums, sum-+, sum-cong, sum-mono, sum-zero}
-use Rattle.market.specs.Market.{Day, Choice, Prices, accepted, orderValue, buyerSurplus, sellerSurplus, rent, missed, shortfall}
+use Rattle.market.specs.Market.{Day, Choice, Prices, accepted, surplusOf, orderValue, buyerSurplus, sellerSurplus, rent, missed, shortfall}
 use Rattle.market.specs.Rules.{Balanced, Lawful}
 use Rattle.market.specs.Other.{Allowed, SameBlocks}
 use Rattle.market.specs.Range.{Placed}
 use Rattle.market.specs.Margins.{accepted-cong, accepted-plus, both-sides}
 use Rattle.market.specs.Items.{Item, _⊕_, all, surplus, surplus-⊕, surplus-all, surplus-is-value}
 use Rattle.market.specs.Kinds.{tradeSurplus, stepItem, stepSurplus, step-priced, step-best, lineItem, lineRent, line-priced, line-best}
-use Rattle.market.specs.Kinds.{blockItem, blockSurplus, block-priced, taken-is, block-best}
+use Rattle.market.specs.Kinds.{blockItem, blockSurplus, block-priced, block-best}
 
 -- ---- all rows together are one item
 
@@ -45,7 +45,7 @@ module _ (d : Day) (p : Prices) where
       ∙ accepted-cong d c _ (tradeSurplus p) (λ t. both-sides (t .side) (t .limit) (p (t .zone) (t .period)) (pos (t .volume)))
 
   all-have : (c : Choice) → accepted d c (tradeSurplus p) +ℤ rent d p c ≡ surpluses c
-  unfolding surpluses rent accepted stepSurplus blockSurplus lineRent
+  unfolding surpluses rent accepted stepSurplus surplusOf lineRent
   all-have c = refl
 
   module _ (placed : Placed d) where
@@ -82,9 +82,11 @@ module _ (d : Day) (p : Prices) where
 
       pub no-better : orderValue d other ≼ orderValue d c +ℤ shortfall d p c
       unfolding shortfall
-      no-better = best-but-for (missed d p c) (λ k l. block-best d p c other k (lawful .block-rule k l))
+      no-better =
+          best-but-for (missed d p c)
+          (λ k l. block-best d p c other k (lawful .block-rule k l) (allowed .ratios-most k l) (λ h. allowed .whole k h l))
 
       pub no-better-with-same-blocks : SameBlocks d c other → orderValue d other ≼ orderValue d c
       no-better-with-same-blocks same =
-          given (best-but-for (λ k. pos 0) (λ k l. rw (taken-is d p c k, taken-is d p other k, same k l) (simp linear (omega arith))))
+          given (best-but-for (λ k. pos 0) (λ k l. rw (same k l) (simp linear (omega arith))))
           (simp sum-zero (simp linear (omega arith)))

@@ -5,9 +5,9 @@ ghost use lib.IntN.{pos, negℤ, natAbs, _+ℤ_, _-ℤ_, _*ℤ_};
 ghost use mir.Syntax.{w64};
 ghost use mir.Val.{SFits};
 ghost use Rattle.whole.specs.Whole.{at};
-ghost use Rattle.limits.specs.Limits.{mostPrice, mostFlow, mostVolume};
-ghost use Rattle.market.specs.Market.{volumeAt};
-ghost use Rattle.market.specs.Rules.{equal, fullOrNone, stepOk, lineOk, blockOk};
+ghost use Rattle.limits.specs.Limits.{mostPrice, mostFlow, mostVolume, mostRatio};
+ghost use Rattle.market.specs.Market.{blockVolume, volumeAt};
+ghost use Rattle.market.specs.Rules.{equal, fullOrNone, stepOk, lineOk, ratioOk, wholeOk, blockOk};
 ghost use Rattle.market.specs.Measures.{Small, gain, sold, bought, measured};
 
 pub enum Side {
@@ -28,6 +28,8 @@ pub struct Block {
     pub zone: usize,
     pub side: Side,
     pub limit: i64,
+    // In thousandths, from 1 to 1,000.
+    pub least: u32,
 }
 
 // A line's capacities stand beside it, two for each period.
@@ -55,11 +57,13 @@ pub struct Totals {
     pub shortfall: i64,
 }
 
-// The rules of a clearing, 11 to 17.
+// The rules of a clearing, 11 to 13, 20 and 21, 14 to 17.
 pub enum Rule {
     Price,
     Capacity,
     Quantity,
+    Ratio,
+    Whole,
     Balance,
     Step,
     Line,
@@ -111,10 +115,32 @@ pub fn line_ok(forward: i64, least: i64, from: i64, to: i64, flow: i64) -> bool
         & ((from <= to) | ((flow <= least) & (least <= flow)))
 }
 
-pub fn block_ok(taken: bool, surplus: i64) -> bool
-    ensures { λ r. ⌜ r ≡ blockOk taken surplus ⌝ }
+pub fn ratio_ok(least: u32, ratio: u32) -> bool
+    ensures { λ r. ⌜ r ≡ ratioOk least ratio ⌝ }
 {
-    !taken | (0 <= surplus)
+    (ratio == 0) | (least <= ratio)
+}
+
+pub fn whole_ok(ratio: u32, quantity: u32) -> bool
+    requires { ⌜ (ratio ≤ mostRatio) × (quantity ≤ mostVolume) ⌝ }
+    ensures { λ r. ⌜ r ≡ wholeOk ratio quantity ⌝ }
+{
+    quantity * ratio % 1000 == 0
+}
+
+pub fn block_ok(ratio: u32, surplus: i64) -> bool
+    ensures { λ r. ⌜ r ≡ blockOk ratio surplus ⌝ }
+{
+    (ratio == 0) | (0 <= surplus)
+}
+
+// ---- what is accepted of a block in a period
+
+pub fn block_volume(ratio: u32, quantity: u32) -> u32
+    requires { ⌜ (ratio ≤ mostRatio) × (quantity ≤ mostVolume) ⌝ }
+    ensures { λ r. ⌜ r ≡ blockVolume ratio quantity ⌝ }
+{
+    quantity * ratio / 1000
 }
 
 // ---- what a trade counts

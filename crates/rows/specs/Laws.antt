@@ -12,7 +12,7 @@ use Rattle.limits.specs.Fields.{only, countedOn, first-behind, every-behind, fi
 use Rattle.limits.specs.Rules.{endsRule, blockRule}
 use Rattle.limits.specs.Limits.{isVolume}
 use Rattle.rows.specs.Rows.{rowSize, rowStart, fieldCount, rowFields, fieldOk, from, to, capacity, lineFields}
-use Rattle.rows.specs.Rows.{blockZone, blockSide, blockSpare, blockPrice, blockQuantity, empty, blockByItself, blockFields}
+use Rattle.rows.specs.Rows.{blockZone, blockSide, blockLeast, blockPrice, blockQuantity, empty, blockByItself, blockFields}
 use Rattle.rows.specs.declared.Kind.{Kind}
 
 -- ---- a line
@@ -35,7 +35,7 @@ module _ (periods zones : ℕ) (part : List ℕ) (at : ℕ) where
 
 module _ (periods zones : ℕ) (part : List ℕ) (at : ℕ) where
   abbrev head : List Bool
-  head = blockRule zones (blockZone part at) (blockSide part at) (blockSpare part at) (blockPrice part at)
+  head = blockRule zones (blockZone part at) (blockSide part at) (blockLeast part at) (blockPrice part at)
 
   abbrev quantityOk : ℕ → Bool
   quantityOk period = isVolume (blockQuantity part at period)

@@ -9,10 +9,10 @@ use lib.IntN.{ℤ}
 use Rattle.wire.specs.Bytes.{u8At, u16At, u32At, i32At}
 use Rattle.stages.specs.First.{every}
 use Rattle.limits.specs.Fields.{behind, only, withLast}
-use Rattle.limits.specs.Limits.{isPrice, isFlow, isVolume}
+use Rattle.limits.specs.Limits.{isPrice, isFlow, isVolume, isRatio}
 use Rattle.limits.specs.Rules.{periodRule, zoneRule, endsRule, stepRule, blockRule}
 use Rattle.rows.specs.declared.Kind.{Kind}
-use Rattle.rows.specs.declared.Kind.the-variants.{Periods, Zones, Lines, Steps, Blocks, Prices, Flows, Volumes, Taken}
+use Rattle.rows.specs.declared.Kind.the-variants.{Periods, Zones, Lines, Steps, Blocks, Prices, Flows, Volumes, Ratios}
 
 -- the bytes of a row, where the day has so many periods
 abbrev pub rowSize : Kind → ℕ → ℕ
@@ -24,7 +24,7 @@ rowSize Blocks periods = 8 + 4 * periods
 rowSize Prices periods = 4
 rowSize Flows periods = 4
 rowSize Volumes periods = 4
-rowSize Taken periods = 1
+rowSize Ratios periods = 2
 
 -- where the row i starts: behind the count and the rows before it
 abbrev pub rowStart : Kind → ℕ → ℕ → ℕ
@@ -105,7 +105,8 @@ stepFields periods zones part at =
     only
     (stepRule zones periods (stepZone part at) (stepPeriod part at) (stepSide part at) (stepSpare part at) (stepPrice part at) (stepQuantity part at))
 
--- ---- 5. Blocks: zone u8, side u8, a spare u16 that is 0, price i32, then a quantity u32 for each period; at least one quantity above 0.
+-- ---- 5. Blocks: zone u8, side u8, least ratio u16 from 0 to 1,000, price i32, then a quantity u32 for each period; at least one quantity above
+-- 0.
 
 abbrev pub blockZone : List ℕ → ℕ → ℕ
 blockZone part at = u8At part at
@@ -113,8 +114,8 @@ blockZone part at = u8At part at
 abbrev pub blockSide : List ℕ → ℕ → ℕ
 blockSide part at = u8At part (at + 1)
 
-abbrev pub blockSpare : List ℕ → ℕ → ℕ
-blockSpare part at = u16At part (at + 2)
+abbrev pub blockLeast : List ℕ → ℕ → ℕ
+blockLeast part at = u16At part (at + 2)
 
 abbrev pub blockPrice : List ℕ → ℕ → ℤ
 blockPrice part at = i32At part (at + 4)
@@ -130,7 +131,7 @@ empty periods part at = every periods (λ period. leb (blockQuantity part at per
 abbrev pub blockByItself : ℕ → List ℕ → ℕ → ℕ → Bool
 blockByItself zones part at =
     behind
-    (blockRule zones (blockZone part at) (blockSide part at) (blockSpare part at) (blockPrice part at))
+    (blockRule zones (blockZone part at) (blockSide part at) (blockLeast part at) (blockPrice part at))
     (λ period. isVolume (blockQuantity part at period))
 
 -- where no quantity is above 0, that is the fault of the last field
@@ -154,10 +155,10 @@ flowFields part at = only (isFlow (i32At part at) ∷ [])
 abbrev pub volumeFields : List ℕ → ℕ → ℕ → Bool
 volumeFields part at = only (isVolume (u32At part at) ∷ [])
 
--- ---- 4. Blocks: u8, 0 rejected or 1 accepted.
+-- ---- 4. Blocks: ratio u16, 0 to 1,000.
 
-abbrev pub takenFields : List ℕ → ℕ → ℕ → Bool
-takenFields part at = only (leb (u8At part at) 1 ∷ [])
+abbrev pub ratioFields : List ℕ → ℕ → ℕ → Bool
+ratioFields part at = only (isRatio (u16At part at) ∷ [])
 
 -- ==== a row's rule: each of its fields passes its test
 
@@ -171,7 +172,7 @@ fieldCount Blocks periods = 4 + periods
 fieldCount Prices periods = 1
 fieldCount Flows periods = 1
 fieldCount Volumes periods = 1
-fieldCount Taken periods = 1
+fieldCount Ratios periods = 1
 
 -- the test of each, in the row i, which starts at `at`
 abbrev pub rowFields : Kind → ℕ → ℕ → List ℕ → ℕ → ℕ → ℕ → Bool
@@ -183,7 +184,7 @@ rowFields Blocks periods zones part i at = blockFields periods zones part at
 rowFields Prices periods zones part i at = priceFields part at
 rowFields Flows periods zones part i at = flowFields part at
 rowFields Volumes periods zones part i at = volumeFields part at
-rowFields Taken periods zones part i at = takenFields part at
+rowFields Ratios periods zones part i at = ratioFields part at
 
 -- the field f of the row i passes its test
 unfoldable pub fieldOk : Kind → ℕ → ℕ → List ℕ → ℕ → ℕ → Bool

@@ -7,18 +7,18 @@ use mathlib.Core.Logic.{_↔_, ⊎-elim}
 use mathlib.Core.Bool.{Bool, true, false, not}
 use mathlib.Core.List.{List}
 use lib.IntN.{ℤ, pos, negℤ}
-use Rattle.wire.specs.Bytes.{u8At, u32At, i32At}
+use Rattle.wire.specs.Bytes.{u16At, u32At, i32At}
 use Rattle.whole.specs.Whole.{_≼_}
 use Rattle.whole.specs.Ring.{leZ-true}
 use Rattle.stages.specs.First.{every, Says, firstBad, foundNothing, says, every-first, every-is, both, apart, leb-is, leb-false-is, ltb-is, eqb-is, not-is}
 use Rattle.stages.specs.declared.Found.{Found}
 use Rattle.stages.specs.declared.Found.the-variants.{At, Nothing}
-use Rattle.limits.specs.Limits.{mostPrice, mostFlow, mostVolume, isPrice, isFlow}
+use Rattle.limits.specs.Limits.{mostPrice, mostFlow, mostVolume, mostRatio, isPrice, isFlow}
 use Rattle.rows.specs.Laws.{line-split, block-split}
 use Rattle.rows.specs.Rows.{rowStart, fieldOk, rowOk, floor, ceiling, code, codeBefore, from, to, forward, back}
 use Rattle.rows.specs.Rows.{stepZone, stepPeriod, stepSide, stepSpare, stepPrice, stepQuantity}
-use Rattle.rows.specs.Rows.{blockZone, blockSide, blockSpare, blockPrice, blockQuantity}
-use Rattle.rows.specs.declared.Kind.the-variants.{Periods, Zones, Lines, Steps, Blocks, Prices, Flows, Volumes, Taken}
+use Rattle.rows.specs.Rows.{blockZone, blockSide, blockLeast, blockPrice, blockQuantity}
+use Rattle.rows.specs.declared.Kind.the-variants.{Periods, Zones, Lines, Steps, Blocks, Prices, Flows, Volumes, Ratios}
 
 -- ---- what is meant
 
@@ -58,7 +58,7 @@ pub record StepRow (periods zones : ℕ) (part : List ℕ) (at : ℕ) : Type 0 w
 pub record BlockRow (periods zones : ℕ) (part : List ℕ) (at : ℕ) : Type 0 where
   pub zone-is : blockZone part at < zones
   pub side-is : blockSide part at ≤ 1
-  pub spare-is : blockSpare part at ≡ 0
+  pub least-is : blockLeast part at ≤ mostRatio
   pub price-is : IsPrice (blockPrice part at)
   pub quantity-is : (period : ℕ) → period < periods → blockQuantity part at period ≤ mostVolume
   -- a period with a quantity above 0
@@ -136,6 +136,6 @@ module _ (periods zones : ℕ) (part : List ℕ) (i : ℕ) where
   unfolding fieldOk
   volume-row = leb-is _ _
 
-  pub taken-row : (rowOk Taken periods zones part i ≡ true) ↔ (u8At part (rowStart Taken periods i) ≤ 1)
+  pub ratio-row : (rowOk Ratios periods zones part i ≡ true) ↔ (u16At part (rowStart Ratios periods i) ≤ mostRatio)
   unfolding fieldOk
-  taken-row = leb-is _ _
+  ratio-row = leb-is _ _

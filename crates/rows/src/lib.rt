@@ -12,7 +12,7 @@ ghost use Rattle.stages.specs.First.{badAt, firstBad};
 ghost use Rattle.limits.specs.Limits.{mostPeriods};
 ghost use Rattle.limits.specs.Fields.{only, countedOn};
 ghost use Rattle.rows.specs.Rows.{rowSize, rowStart, fieldCount, fieldOk, codeBefore, periodFields, zoneFields, lineFields, stepFields};
-ghost use Rattle.rows.specs.Rows.{empty, blockByItself, blockFields, volumeFields, takenFields};
+ghost use Rattle.rows.specs.Rows.{empty, blockByItself, blockFields, volumeFields, ratioFields};
 
 // The sections of a day file, and those of a clearing file.
 pub enum Kind {
@@ -24,7 +24,7 @@ pub enum Kind {
     Prices,
     Flows,
     Volumes,
-    Taken,
+    Ratios,
 }
 
 pub fn row_size(kind: Kind, periods: usize) -> usize
@@ -40,7 +40,7 @@ pub fn row_size(kind: Kind, periods: usize) -> usize
         Kind::Prices => 4,
         Kind::Flows => 4,
         Kind::Volumes => 4,
-        Kind::Taken => 1,
+        Kind::Ratios => 2,
     }
 }
 
@@ -176,11 +176,11 @@ fn volume_field(part: &[u8], at: usize) -> Found
     limits::one_field(wire::u32_at(part, at) <= limits::VOLUME_MOST)
 }
 
-fn taken_field(part: &[u8], at: usize) -> Found
-    requires { ⌜ at + 1 ≤ length (now part) ⌝ }
-    ensures { λ r. ⌜ r ≡ firstBad 1 (takenFields (now (part .entry)) at) ⌝ }
+fn ratio_field(part: &[u8], at: usize) -> Found
+    requires { ⌜ at + 2 ≤ length (now part) ⌝ }
+    ensures { λ r. ⌜ r ≡ firstBad 1 (ratioFields (now (part .entry)) at) ⌝ }
 {
-    limits::one_field(wire::u8_at(part, at) <= 1)
+    limits::one_field(wire::u16_at(part, at) <= limits::RATIO_MOST)
 }
 
 // The first field of the row i of a section that fails its test; none where the row obeys its rule.
@@ -198,6 +198,6 @@ pub fn row_field(kind: Kind, periods: usize, zones: usize, part: &[u8], i: usize
         Kind::Prices => signed_field(part, at, limits::PRICE_LEAST, limits::PRICE_MOST),
         Kind::Flows => signed_field(part, at, limits::FLOW_LEAST, limits::FLOW_MOST),
         Kind::Volumes => volume_field(part, at),
-        Kind::Taken => taken_field(part, at),
+        Kind::Ratios => ratio_field(part, at),
     }
 }

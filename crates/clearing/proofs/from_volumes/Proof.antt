@@ -6,7 +6,7 @@ use borrow.Author.Needs.{needs}
 use Rattle.rows.specs.declared.Kind.the-variants.{Volumes}
 use Rattle.reader.specs.Chain.{reading-read, fault-returns, handed-on}
 use Rattle.clearing.specs.Clearing.{clearingNumbers}
-use Rattle.clearing.specs.Chain.{fromTaken}
+use Rattle.clearing.specs.Chain.{fromRatios}
 use Rattle.clearing.specs.declared.Files.the-variants.{Good, Bad}
 use Rattle.clearing.proofs.from_volumes.Statement.{statement}
 use Rattle.clearing.proofs.from_volumes.Tie as tie
@@ -27,22 +27,22 @@ rest-requires c κs =
     (sym (c .before .before .before .read-section .ensures) ∙ c .before .n .given .1) in
     (omega arith, (r .counted, r .room))
 
-from-taken-requires : tie.Need-from-taken-requires
-from-taken-requires c κs = search needs
+from-ratios-requires : tie.Need-from-ratios-requires
+from-ratios-requires c κs = search needs
 
 returns : tie.Need-returns
 returns c =
     let a = c .before .before .before .before .before .args in
     fault-returns clearingNumbers 3 Volumes (a .counts .steps) (a .counts .steps) 0 0 (now (a .part))
-    Bad (λ left n. Good (a .counts)) (λ left n. fromTaken (a .counts) left)
+    Bad (λ left n. Good (a .counts)) (λ left n. fromRatios (a .counts) left)
     (sym (c .before .before .before .read-section .ensures) ∙ c .before .k .given .1)
 
 returns-2 : tie.Need-returns-2
 returns-2 c =
     let a = c .before .before .before .before .before .before .before .args in
     handed-on clearingNumbers 3 Volumes (a .counts .steps) (a .counts .steps) 0 0 (now (a .part))
-    Bad (λ left n. Good (a .counts)) (λ left n. fromTaken (a .counts) left)
-    (sym (c .before .before .before .before .before .read-section .ensures) ∙ c .before .before .before .n .given .1) (c .before .rest .ensures .0) (c .from-taken .ensures)
+    Bad (λ left n. Good (a .counts)) (λ left n. fromRatios (a .counts) left)
+    (sym (c .before .before .before .before .before .read-section .ensures) ∙ c .before .before .before .n .given .1) (c .before .rest .ensures .0) (c .from-ratios .ensures)
 
 pub from-volumes-spec : {M : Type 1} → statement M
 from-volumes-spec =
@@ -52,6 +52,6 @@ from-volumes-spec =
     enum-known-k
     enum-known-n
     rest-requires
-    from-taken-requires
+    from-ratios-requires
     returns
     returns-2)

@@ -6,7 +6,7 @@ use mir.ValLaws.{toZ-ofZ}
 use Rattle.stages.specs.First.{firstBad}
 use Rattle.limits.specs.Fields.{only}
 use Rattle.limits.specs.Rules.{blockRule}
-use Rattle.rows.specs.Rows.{blockZone, blockSide, blockSpare, blockPrice}
+use Rattle.rows.specs.Rows.{blockZone, blockSide, blockLeast, blockPrice}
 use Rattle.rows.specs.Laws.{by-itself}
 use borrow.Author.Needs.{needs}
 use Rattle.rows.proofs.block_by_itself.Statement.{statement}
@@ -50,7 +50,7 @@ first-above-requires c κs = search needs
 
 head-first : (c : tie.After-block-field) → let a = c .before .before .before .before .before .before .args in
     c .block-field .result
-    ≡ firstBad 4 (only (blockRule (a .zones) (blockZone (now (a .part)) (a .at)) (blockSide (now (a .part)) (a .at)) (blockSpare (now (a .part)) (a .at))
+    ≡ firstBad 4 (only (blockRule (a .zones) (blockZone (now (a .part)) (a .at)) (blockSide (now (a .part)) (a .at)) (blockLeast (now (a .part)) (a .at))
     (blockPrice (now (a .part)) (a .at))))
 head-first c = let price = c .before .i32-at in cc (toZ-ofZ w64 (price .result) (record { sfits = price .ok }))
 

@@ -78,8 +78,8 @@ volume-field-requires c κs = in-room (c .before .before) (c .enum-told8 .given 
 enum-told-9 : tie.Need-enum-told-9
 enum-told-9 c = search needs
 
-taken-field-requires : tie.Need-taken-field-requires
-taken-field-requires c κs = in-room (c .before .before) (c .enum-told9 .given .1)
+ratio-field-requires : tie.Need-ratio-field-requires
+ratio-field-requires c κs = in-room (c .before .before) (c .enum-told9 .given .1)
 
 returns : tie.Need-returns
 returns c = c .period-field .ensures ∙ by-kind (c .before .before .before) (c .before .enum-told .given .1)
@@ -106,7 +106,7 @@ returns-8 : tie.Need-returns-8
 returns-8 c = c .volume-field .ensures ∙ by-kind (c .before .before .before) (c .before .enum-told8 .given .1)
 
 returns-9 : tie.Need-returns-9
-returns-9 c = c .taken-field .ensures ∙ by-kind (c .before .before .before) (c .before .enum-told9 .given .1)
+returns-9 c = c .ratio-field .ensures ∙ by-kind (c .before .before .before) (c .before .enum-told9 .given .1)
 
 pub row-field-spec : {M : Type 1} → statement M
 row-field-spec =
@@ -130,7 +130,7 @@ row-field-spec =
     enum-told-8
     volume-field-requires
     enum-told-9
-    taken-field-requires
+    ratio-field-requires
     returns
     returns-2
     returns-3

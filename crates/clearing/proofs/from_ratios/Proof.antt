@@ -1,15 +1,15 @@
--- `clearing::from_taken` meets its contract: a fault of the section is the file's, and what is left is handed on. Assumes nothing.
+-- `clearing::from_ratios` meets its contract: a fault of the section is the file's, and what is left is handed on. Assumes nothing.
 use mathlib.Core.Path.{sym, _∙_}
 use native.Mathlib.Omega.{arith}
 use denote.Ref.{now}
 use borrow.Author.Needs.{needs}
 use Rattle.sections.specs.Section.{ended}
-use Rattle.rows.specs.declared.Kind.the-variants.{Taken}
+use Rattle.rows.specs.declared.Kind.the-variants.{Ratios}
 use Rattle.reader.specs.Chain.{reading-read, fault-returns, handed-on}
 use Rattle.clearing.specs.Clearing.{clearingNumbers}
 use Rattle.clearing.specs.declared.Files.the-variants.{Good, Bad}
-use Rattle.clearing.proofs.from_taken.Statement.{statement}
-use Rattle.clearing.proofs.from_taken.Tie as tie
+use Rattle.clearing.proofs.from_ratios.Statement.{statement}
+use Rattle.clearing.proofs.from_ratios.Tie as tie
 
 read-section-requires : tie.Need-read-section-requires
 read-section-requires c κs = search needs
@@ -23,7 +23,7 @@ enum-known-n c = search needs
 rest-requires : tie.Need-rest-requires
 rest-requires c κs =
     let a = c .before .before .before .before .before .args in
-    let r = reading-read clearingNumbers 4 Taken (a .counts .blocks) (a .counts .blocks) 0 0 (now (a .part))
+    let r = reading-read clearingNumbers 4 Ratios (a .counts .blocks) (a .counts .blocks) 0 0 (now (a .part))
     (sym (c .before .before .before .read-section .ensures) ∙ c .before .n .given .1) in
     (omega arith, (r .counted, r .room))
 
@@ -33,19 +33,19 @@ from-end-requires c κs = search needs
 returns : tie.Need-returns
 returns c =
     let a = c .before .before .before .before .before .args in
-    fault-returns clearingNumbers 4 Taken (a .counts .blocks) (a .counts .blocks) 0 0 (now (a .part))
+    fault-returns clearingNumbers 4 Ratios (a .counts .blocks) (a .counts .blocks) 0 0 (now (a .part))
     Bad (λ left n. Good (a .counts)) (λ left n. ended 8 left)
     (sym (c .before .before .before .read-section .ensures) ∙ c .before .k .given .1)
 
 returns-2 : tie.Need-returns-2
 returns-2 c =
     let a = c .before .before .before .before .before .before .before .args in
-    handed-on clearingNumbers 4 Taken (a .counts .blocks) (a .counts .blocks) 0 0 (now (a .part))
+    handed-on clearingNumbers 4 Ratios (a .counts .blocks) (a .counts .blocks) 0 0 (now (a .part))
     Bad (λ left n. Good (a .counts)) (λ left n. ended 8 left)
     (sym (c .before .before .before .before .before .read-section .ensures) ∙ c .before .before .before .n .given .1) (c .before .rest .ensures .0) (c .from-end .ensures)
 
-pub from-taken-spec : {M : Type 1} → statement M
-from-taken-spec =
+pub from-ratios-spec : {M : Type 1} → statement M
+from-ratios-spec =
     tie.close
     (tie.spec
     read-section-requires
