@@ -1,11 +1,12 @@
 -- The market's day that a day file says, and the prices and the choice that a clearing file says, row by row. `c` are the day's counts.
 -- Assumes nothing.
 use Prim.Native.Nat.{ℕ, _+_, _*_}
-use mathlib.Core.Bool.{Bool, true, false}
+use mathlib.Core.Bool.{Bool, true, false, cond}
 use mathlib.Core.List.{List}
 use lib.Dec.{eqb}
 use lib.IntN.{ℤ, pos}
-use Rattle.wire.specs.Bytes.{u8At, u32At, i32At}
+use Rattle.wire.specs.Bytes.{u16At, u32At, i32At}
+use Rattle.limits.specs.Limits.{mostRatio}
 use Rattle.rows.specs.Rows as rows
 use Rattle.rows.specs.Rows.{rowStart}
 use Rattle.rows.specs.declared.Kind.the-variants.{Periods, Lines, Steps, Blocks, Prices, Flows, Volumes, Ratios}
@@ -38,8 +39,17 @@ stepAt part at = record {
   quantity = rows.stepQuantity part at;
 }
 
+-- a least ratio of 0 stands for 1,000: all or nothing
+abbrev pub leastOf : ℕ → ℕ
+leastOf n = cond (eqb n 0) mostRatio n
+
 abbrev pub blockAt : List ℕ → ℕ → Block
-blockAt part at = record { zone = rows.blockZone part at; side = sideOf (rows.blockSide part at); limit = rows.blockPrice part at }
+blockAt part at = record {
+  zone = rows.blockZone part at;
+  side = sideOf (rows.blockSide part at);
+  limit = rows.blockPrice part at;
+  least = leastOf (rows.blockLeast part at);
+}
 
 abbrev pub lineAt : List ℕ → ℕ → Line
 lineAt part at = record { from = rows.from part at; to = rows.to part at }
@@ -93,8 +103,8 @@ module _ (c : Counts) (day : List ℕ) where
 unfoldable pub volumeOf : List ℕ → ℕ → ℕ
 volumeOf clearing i = u32At (volumesPart clearing) (rowStart Volumes 0 i)
 
-unfoldable pub ratioOf : List ℕ → ℕ → Bool
-ratioOf clearing k = eqb (u8At (ratiosPart clearing) (rowStart Ratios 0 k)) 1
+unfoldable pub ratioOf : List ℕ → ℕ → ℕ
+ratioOf clearing k = u16At (ratiosPart clearing) (rowStart Ratios 0 k)
 
 module _ (c : Counts) (clearing : List ℕ) where
   -- all periods of zone 0 first, and all periods of line 0 first
@@ -105,4 +115,4 @@ module _ (c : Counts) (clearing : List ℕ) where
   flowOf l period = i32At (flowsPart clearing) (rowStart Flows 0 (l * c .periods + period))
 
   abbrev pub choiceOf : Choice
-  choiceOf = record { volume = volumeOf clearing; taken = ratioOf clearing; flow = flowOf }
+  choiceOf = record { volume = volumeOf clearing; ratio = ratioOf clearing; flow = flowOf }

@@ -13,9 +13,9 @@ use Rattle.market.specs.Range.{Placed, Ranged}
 use Rattle.day.specs.declared.Counts.{Counts}
 use Rattle.day.specs.Day.{counts}
 use Rattle.day.specs.Good.{GoodDay, in-limits, good-line, good-step, good-block}
-use Rattle.clearing.specs.Good.{good-price, good-flow, good-volume}
+use Rattle.clearing.specs.Good.{good-price, good-flow, good-volume, good-ratio}
 use Rattle.parts.specs.Of.{OfDay}
-use Rattle.book.specs.Book.{dayOf, lineOf, forwardOf, backOf, stepOf, blockOf, quantityOf, pricesOf, flowOf, volumeOf, choiceOf}
+use Rattle.book.specs.Book.{dayOf, lineOf, forwardOf, backOf, stepOf, blockOf, quantityOf, pricesOf, flowOf, volumeOf, ratioOf, choiceOf}
 use Rattle.book.specs.Of.{OfFiles, cell-below}
 
 -- ---- numbers
@@ -57,11 +57,12 @@ placed {day} o = subst (λ (k : Counts). Placed (dayOf k day)) (o .counted) (pla
 -- ---- the prices and the choice
 
 pub ranged : {day clearing : List ℕ} {c : Counts} → OfFiles day clearing c → Ranged (dayOf c day) (pricesOf c clearing) (choiceOf c clearing)
-unfolding pricesOf flowOf volumeOf
+unfolding pricesOf flowOf volumeOf ratioOf
 ranged o =
     let g = o .of-clearing .cleared in
     record {
       price = λ z h a b. price-size (good-price g (cell-below a b));
       flow = λ l h a b. flow-size (good-flow g (cell-below a b));
       volume = λ i b. good-volume g b;
+      ratio = λ k b. good-ratio g b;
     }

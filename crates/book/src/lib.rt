@@ -17,7 +17,7 @@ ghost use Rattle.day.specs.Day.{linesPart};
 ghost use Rattle.parts.specs.Of.{OfDay};
 ghost use Rattle.clearing.specs.Clearing.{flowsPart, volumesPart, ratiosPart};
 ghost use Rattle.book.specs.Of.{OfClearing};
-ghost use Rattle.book.specs.Book.{sideOf, stepAt, blockAt, lineAt, floorOf, ceilingOf, lineOf, forwardOf, backOf, stepOf, blockOf, quantityOf};
+ghost use Rattle.book.specs.Book.{sideOf, leastOf, stepAt, blockAt, lineAt, floorOf, ceilingOf, lineOf, forwardOf, backOf, stepOf, blockOf, quantityOf};
 ghost use Rattle.book.specs.Book.{pricesOf, flowOf, volumeOf, ratioOf};
 
 // ---- a capacity, as the least flow that it allows
@@ -77,6 +77,20 @@ fn side_of(n: usize) -> Side
     if n == 0 { Side::Sell } else { Side::Buy }
 }
 
+// A number of two bytes.
+fn narrow(n: usize) -> u32
+    requires { ⌜ n < 65536 ⌝ }
+    ensures { λ r. ⌜ r ≡ n ⌝ }
+{
+    n as u32
+}
+
+fn least_of(n: u32) -> u32
+    ensures { λ r. ⌜ r ≡ leastOf n ⌝ }
+{
+    if n == 0 { 1000 } else { n }
+}
+
 fn step_at(part: &[u8], at: usize) -> Step
     requires { ⌜ at + 12 ≤ length (now part) ⌝ }
     ensures { λ r. ⌜ r ≡ stepAt (now (part .entry)) at ⌝ }
@@ -98,6 +112,7 @@ fn block_at(part: &[u8], at: usize) -> Block
         zone: wire::u8_at(part, at),
         side: side_of(wire::u8_at(part, at + 1)),
         limit: wire::i32_at(part, at + 4),
+        least: least_of(narrow(wire::u16_at(part, at + 2))),
     }
 }
 
@@ -216,9 +231,9 @@ pub fn volume_of(clearing: &[u8], counts: Counts, row: usize) -> u32
     wire::u32_at(volumes_part(clearing, counts), 2 + 4 * row)
 }
 
-pub fn ratio_of(clearing: &[u8], counts: Counts, row: usize) -> bool
+pub fn ratio_of(clearing: &[u8], counts: Counts, row: usize) -> u32
     requires { ⌜ (OfClearing (now clearing) counts) × (row < counts .blocks) ⌝ }
     ensures { λ r. ⌜ r ≡ ratioOf (now (clearing .entry)) row ⌝ }
 {
-    wire::u8_at(ratios_part(clearing, counts), 2 + row) == 1
+    narrow(wire::u16_at(ratios_part(clearing, counts), 2 + 2 * row))
 }

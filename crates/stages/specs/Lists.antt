@@ -1,9 +1,12 @@
--- Laws of lists of stages: which numbers a list refuses with, one list after another, and lists whose numbers ascend. Assumes nothing.
+-- Laws of lists of stages: which numbers a list refuses with, one list after another, and lists whose stages have their turns in order.
+-- Assumes nothing.
 use Prim.Native.Nat.{ℕ, suc, _<_, _≤_}
 use native.Mathlib.Omega.{arith}
-use mathlib.Core.Path.{_≡_, subst}
+use mathlib.Core.Path.{_≡_, ap, subst}
+use mathlib.Core.Bool.{cond}
 use mathlib.Core.Logic.{_↔_, _⊎_, inl, inr, ⊎-elim}
 use mathlib.Core.List.{List, [], _∷_, _++_}
+use lib.Dec.{eqb}
 use Rattle.stages.specs.Stage.{Stage, Holds, BrokenAt, Means}
 use Rattle.stages.specs.declared.Place.{Place}
 use Rattle.stages.specs.declared.Fault.the-variants.{Broken, Clean}
@@ -24,10 +27,15 @@ abbrev pub In : Stage → List Stage → Type 0
 In s [] = ⊥
 In s (t ∷ ss) = (t ≡ s) ⊎ In s ss
 
--- the numbers are at least k, and each is above the one before it
-abbrev pub Ascending : ℕ → List Stage → Type 0
-Ascending k [] = Unit
-Ascending k (s ∷ ss) = (k ≤ s .number) × Ascending (suc (s .number)) ss
+-- the turn of a number in a list of numbers: how many stand before it
+abbrev pub turnIn : List ℕ → ℕ → ℕ
+turnIn [] k = 0
+turnIn (n ∷ ns) k = cond (eqb n k) 0 (suc (turnIn ns k))
+
+-- by a turn of each number: the turns are at least k, and each is above the one before it
+abbrev pub InTurn : (ℕ → ℕ) → ℕ → List Stage → Type 0
+InTurn turn k [] = Unit
+InTurn turn k (s ∷ ss) = (k ≤ turn (s .number)) × InTurn turn (suc (turn (s .number))) ss
 
 -- ---- a fault of two lists is one of the first, or the first is clean and it is one of the second
 
@@ -94,44 +102,45 @@ module _ (xs ys : List Stage) (k : ℕ) (p : Place) (P : ℕ → Type 0) (other 
       let b = broken-++ xs ys k p in
       (λ m. ⊎-elim (λ x. absurd (other (numbered P xs n k p x))) (λ y. y) (b .0 m), λ m. b .1 (inr m))
 
--- ---- numbers that ascend
+-- ---- turns in order
 
-ascending-from : (k : ℕ) (ss : List Stage) → Ascending k ss → Numbers (λ (n : ℕ). k ≤ n) ss
-ascending-from k [] a = tt
-ascending-from k (s ∷ ss) a = (a .0, each-so _ _ ss (λ t h. omega (arith, a .0, h)) (ascending-from (suc (s .number)) ss (a .1)))
+module _ (turn : ℕ → ℕ) where
+  turns-from : (k : ℕ) (ss : List Stage) → InTurn turn k ss → Numbers (λ (n : ℕ). k ≤ turn n) ss
+  turns-from k [] a = tt
+  turns-from k (s ∷ ss) a = (a .0, each-so _ _ ss (λ t h. omega (arith, a .0, h)) (turns-from (suc (turn (s .number))) ss (a .1)))
 
--- the stages with a lower number hold
-abbrev pub LowerHold : Stage → List Stage → Type 0
-LowerHold s = Each (λ (t : Stage). t .number < s .number → Holds t)
+  -- the stages whose turn comes before that of s hold
+  abbrev pub EarlierHold : Stage → List Stage → Type 0
+  EarlierHold s = Each (λ (t : Stage). turn (t .number) < turn (s .number) → Holds t)
 
-module _ (k : ℕ) (s : Stage) (ss : List Stage) (a : Ascending k (s ∷ ss)) where
-  above : Numbers (λ (n : ℕ). s .number < n) ss
-  above = ascending-from (suc (s .number)) ss (a .1)
+  module _ (k : ℕ) (s : Stage) (ss : List Stage) (a : InTurn turn k (s ∷ ss)) where
+    above : Numbers (λ (n : ℕ). turn (s .number) < turn n) ss
+    above = turns-from (suc (turn (s .number))) ss (a .1)
 
-  -- a refusal with the first stage's number is its own, and no stage has a lower number
-  first-broken : (p : Place) → Means (s ∷ ss) (Broken (s .number) p) ↔ (BrokenAt s (s .number) p × LowerHold s (s ∷ ss))
-  first-broken p = (to, λ m. inl (m .0))
-    where
-      to : Means (s ∷ ss) (Broken (s .number) p) → BrokenAt s (s .number) p × LowerHold s (s ∷ ss)
-      to (inl b) = (b, (λ l. absurd (omega (arith, l)), each-so _ _ ss (λ t h l. absurd (omega (arith, h, l))) above))
-      to (inr m) = let l = numbered (λ (n : ℕ). s .number < n) ss above (s .number) p (m .1) in absurd (omega (arith, l))
+    -- a refusal with the first stage's number is its own, and no stage has its turn before it
+    first-broken : (p : Place) → Means (s ∷ ss) (Broken (s .number) p) ↔ (BrokenAt s (s .number) p × EarlierHold s (s ∷ ss))
+    first-broken p = (to, λ m. inl (m .0))
+      where
+        to : Means (s ∷ ss) (Broken (s .number) p) → BrokenAt s (s .number) p × EarlierHold s (s ∷ ss)
+        to (inl b) = (b, (λ l. absurd (omega (arith, l)), each-so _ _ ss (λ t h l. absurd (omega (arith, h, l))) above))
+        to (inr m) = let l = numbered (λ (n : ℕ). turn (s .number) < turn n) ss above (s .number) p (m .1) in absurd (omega (arith, l))
 
-  -- one with a later stage's number is not the first stage's, which holds
-  later-broken : (t : Stage) → In t ss → (p : Place) → Means ss (Broken (t .number) p) ↔ (BrokenAt t (t .number) p × LowerHold t ss) →
-      Means (s ∷ ss) (Broken (t .number) p) ↔ (BrokenAt t (t .number) p × LowerHold t (s ∷ ss))
-  later-broken t i p rest = (to, λ m. inr (m .1 .0 lower, rest .1 (m .0, m .1 .1)))
-    where
-      lower : s .number < t .number
-      lower = each-in (λ (u : Stage). s .number < u .number) ss above i
+    -- one with a later stage's number is not the first stage's, which holds
+    later-broken : (t : Stage) → In t ss → (p : Place) → Means ss (Broken (t .number) p) ↔ (BrokenAt t (t .number) p × EarlierHold t ss) →
+        Means (s ∷ ss) (Broken (t .number) p) ↔ (BrokenAt t (t .number) p × EarlierHold t (s ∷ ss))
+    later-broken t i p rest = (to, λ m. inr (m .1 .0 earlier, rest .1 (m .0, m .1 .1)))
+      where
+        earlier : turn (s .number) < turn (t .number)
+        earlier = each-in (λ (u : Stage). turn (s .number) < turn (u .number)) ss above i
 
-      to : Means (s ∷ ss) (Broken (t .number) p) → BrokenAt t (t .number) p × LowerHold t (s ∷ ss)
-      to (inl b) = absurd (omega (arith, lower, b .number))
-      to (inr m) = let r = rest .0 (m .1) in (r .0, (λ _. m .0, r .1))
+        to : Means (s ∷ ss) (Broken (t .number) p) → BrokenAt t (t .number) p × EarlierHold t (s ∷ ss)
+        to (inl b) = absurd (omega (arith, earlier, ap turn (b .number)))
+        to (inr m) = let r = rest .0 (m .1) in (r .0, (λ _. m .0, r .1))
 
--- A refusal with the number of a stage of the list: that stage is broken there, and the stages with a lower number hold.
-pub ascending-broken : (k : ℕ) (ss : List Stage) → Ascending k ss → (s : Stage) → In s ss → (p : Place) →
-    Means ss (Broken (s .number) p) ↔ (BrokenAt s (s .number) p × LowerHold s ss)
-ascending-broken k [] a s i p = absurd i
-ascending-broken k (t ∷ ss) a s (inl e) p =
-    subst (λ (u : Stage). Means (t ∷ ss) (Broken (u .number) p) ↔ (BrokenAt u (u .number) p × LowerHold u (t ∷ ss))) e (first-broken k t ss a p)
-ascending-broken k (t ∷ ss) a s (inr i) p = later-broken k t ss a s i p (ascending-broken (suc (t .number)) ss (a .1) s i p)
+  -- A refusal with the number of a stage of the list: that stage is broken there, and the stages whose turn comes before it hold.
+  pub in-turn-broken : (k : ℕ) (ss : List Stage) → InTurn turn k ss → (s : Stage) → In s ss → (p : Place) →
+      Means ss (Broken (s .number) p) ↔ (BrokenAt s (s .number) p × EarlierHold s ss)
+  in-turn-broken k [] a s i p = absurd i
+  in-turn-broken k (t ∷ ss) a s (inl e) p =
+      subst (λ (u : Stage). Means (t ∷ ss) (Broken (u .number) p) ↔ (BrokenAt u (u .number) p × EarlierHold u (t ∷ ss))) e (first-broken k t ss a p)
+  in-turn-broken k (t ∷ ss) a s (inr i) p = later-broken k t ss a s i p (in-turn-broken (suc (turn (t .number))) ss (a .1) s i p)

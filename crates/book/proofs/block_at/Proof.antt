@@ -23,8 +23,22 @@ add-i32-at c = search needs
 i32-at-requires : tie.Need-i32-at-requires
 i32-at-requires c κs = search needs
 
+add-u16-at : tie.Need-add-u16-at
+add-u16-at c = search needs
+
+u16-at-requires : tie.Need-u16-at-requires
+u16-at-requires c κs = search needs
+
+narrow-requires : tie.Need-narrow-requires
+narrow-requires c κs = c .u16-at .ensures .1
+
+least-of-requires : tie.Need-least-of-requires
+least-of-requires c κs = search needs
+
 returns : tie.Need-returns
-returns c = cc (toZ-ofZ w64 (c .i32-at .result) (record { sfits = c .i32-at .ok }))
+returns c =
+    let price = c .before .before .before .i32-at in
+    cc (toZ-ofZ w64 (price .result) (record { sfits = price .ok }), c .before .before .u16-at .ensures .0)
 
 pub block-at-spec : {M : Type 1} → statement M
 block-at-spec =
@@ -36,4 +50,8 @@ block-at-spec =
     side-of-requires
     add-i32-at
     i32-at-requires
+    add-u16-at
+    u16-at-requires
+    narrow-requires
+    least-of-requires
     returns)
