@@ -3,9 +3,10 @@
 Prices come first, flows and acceptances follow from them, then steps at the money balance each zone and
 period. Every number is drawn from a generator of our own, so that a seed gives the same days everywhere.
 """
+from math import gcd
 from struct import calcsize, pack
 
-from judge import BUY, MOST, SELL
+from judge import BUY, MOST, SELL, WHOLE, shares
 
 WORD = 2 ** 64 - 1
 
@@ -51,22 +52,22 @@ class Case:
     """A day with a clearing, as rows and as two files.
 
     bounds: (floor, ceiling); lines: (from, to, (forward, back, forward, back ..)); steps: (zone, period,
-    side, price, quantity); blocks: (zone, side, price, quantities); prices and flows: all periods of zone or
-    line 0 first. counts, sizes and starts tell of each section of each file how many rows it has, of how
-    many bytes, and where its count lies.
+    side, price, quantity); blocks: (zone, side, least ratio, price, quantities); prices and flows: all
+    periods of zone or line 0 first. counts, sizes and starts tell of each section of each file how many rows
+    it has, of how many bytes, and where its count lies.
     """
 
     def __init__(self, bounds, codes, lines=(), steps=(), blocks=(),
-                 prices=(), flows=(), volumes=(), taken=()):
+                 prices=(), flows=(), volumes=(), ratios=()):
         self.bounds, self.codes, self.lines, self.steps, self.blocks = bounds, codes, lines, steps, blocks
-        self.prices, self.flows, self.volumes, self.taken = prices, flows, volumes, taken
+        self.prices, self.flows, self.volumes, self.ratios = prices, flows, volumes, ratios
         self.periods, self.zones = len(bounds), len(codes)
         day = (("<ii", bounds), ("<H", [(code,) for code in codes]),
                ("<BB%dI" % (2 * self.periods), [(*line[:2], *line[2]) for line in lines]),
                ("<BBBxiI", steps),
-               ("<BBxxi%dI" % self.periods, [(*block[:3], *block[3]) for block in blocks]))
+               ("<BBHi%dI" % self.periods, [(*block[:4], *block[4]) for block in blocks]))
         clearing = tuple((form, [(value,) for value in values]) for form, values in (
-            ("<i", prices), ("<i", flows), ("<I", volumes), ("<B", taken)))
+            ("<i", prices), ("<i", flows), ("<I", volumes), ("<H", ratios)))
         self.counts, self.sizes, self.starts, self.files = [], [], [], []
         for sections in (day, clearing):
             file, starts = b"", []
@@ -94,7 +95,7 @@ class Case:
 
     def last_paying(self, block):
         """The last limit at which a block still pays at the stated prices."""
-        zone, side, _, quantities = self.blocks[block]
+        zone, side, _, _, quantities = self.blocks[block]
         return last_paying(side, quantities, self.prices[zone * self.periods:])
 
 
@@ -102,6 +103,11 @@ def last_paying(side, quantities, prices):
     """The last limit at which these quantities still pay at these prices."""
     worth, whole = sum(quantity * price for quantity, price in zip(quantities, prices)), sum(quantities)
     return worth // whole if side == SELL else -(-worth // whole)
+
+
+def unit_of(ratio):
+    """The least quantity of which a ratio makes a whole volume."""
+    return WHOLE // gcd(WHOLE, ratio)
 
 
 def clip(price):
@@ -160,23 +166,40 @@ def draw_flow(draw, rise, forward, back):
     return draw.pick((forward, -back, 0, draw.between(-back, forward), draw.between(-back, forward)))
 
 
-def draw_block(draw, zones, periods, prices, taken):
-    """A block that pays if it is taken, often just so."""
-    zone, side = draw.below(zones), draw.below(2)
+def draw_ratio(draw, split):
+    """A block's ratio: 0, 1,000 or, if blocks may be split, one between."""
+    part = draw.pick((1, 2, 125, 250, 255, 256, 500, 500, 768, 999, 10 * draw.between(1, 99),
+                      draw.between(1, 999)))
+    return draw.pick((0, WHOLE, part, part) if split else (0, WHOLE))
+
+
+def draw_least(draw, ratio):
+    """A least ratio that a ratio does not miss."""
+    if 0 < ratio < WHOLE:
+        return draw.pick((1, ratio, max(1, ratio - 1), draw.between(1, ratio)))
+    return draw.pick((0, 0, 1, 2, 255, 256, 500, 999, WHOLE, draw.between(1, WHOLE)))
+
+
+def draw_block(draw, zones, periods, prices, ratio, split):
+    """A block that pays if any of it is accepted, often just so. Its volumes are whole at its ratio; those of
+    a block that may be split are often whole at any ratio."""
+    zone, side, least = draw.below(zones), draw.below(2), draw_least(draw, ratio) if split else 0
     own = prices[zone * periods:(zone + 1) * periods]
+    unit = draw.pick((unit_of(ratio), unit_of(ratio), WHOLE)) if split else 1
     for _ in range(4 if periods < 5 else 1):
-        quantities = [draw.pick((0, 1, draw.between(1, 9), draw.between(1, 400))) for _ in range(periods)]
+        quantities = [unit * draw.pick((0, 1, draw.between(1, 9), draw.between(1, max(1, 400 // unit))))
+                      for _ in range(periods)]
         if not any(quantities):
-            quantities[draw.below(periods)] = draw.between(1, 50)
+            quantities[draw.below(periods)] = unit * draw.between(1, max(1, 50 // unit))
         if sum(q * p for q, p in zip(quantities, own)) % sum(quantities) == 0:
             break
     limit = last_paying(side, quantities, own)
-    if taken:
-        better = draw.pick((0, 0, 0, 1, draw.below(5000)))
+    if ratio:
+        better = draw.pick((0, 0, 0 if ratio == WHOLE else 1 + draw.below(5000), 1, draw.below(5000)))
         limit += better if side == BUY else -better
     else:
         limit += draw.pick((0, 1, -1, draw.between(-9000, 9000), draw.between(-MOST, MOST)))
-    return zone, side, clip(limit), tuple(quantities)
+    return zone, side, least, clip(limit), tuple(quantities)
 
 
 def draw_step(draw, zones, periods, prices, empty=False):
@@ -203,9 +226,9 @@ def balance(draw, case, rows):
             wants[target * case.periods + period] -= flow
     for (zone, period, side, _, _), volume in rows:
         wants[zone * case.periods + period] += volume if side == BUY else -volume
-    for (zone, side, _, quantities), taken in zip(case.blocks, case.taken):
-        for period, quantity in enumerate(quantities if taken else ()):
-            wants[zone * case.periods + period] += quantity if side == BUY else -quantity
+    for (zone, side, _, _, quantities), ratio in zip(case.blocks, case.ratios):
+        for period, volume in enumerate(shares(quantities, ratio)):
+            wants[zone * case.periods + period] += volume if side == BUY else -volume
     for cell, want in enumerate(wants):
         side, left, price = (SELL, want, case.prices[cell]) if want > 0 else (BUY, -want, case.prices[cell])
         while left:
@@ -232,10 +255,11 @@ def draw_codes(draw, zones):
     return sorted(codes)
 
 
-def make(draw, periods, zones, lines, steps, blocks, kind=None, big=MOST, total=0, idle=False):
+def make(draw, periods, zones, lines, steps, blocks, kind=None, big=MOST, total=0, idle=False, split=None):
     """A day with an accepted clearing: so many steps drawn freely, then those that balance, then empty ones
-    up to a total. An idle day has equal prices, no flows and only rejected blocks, so nothing to balance."""
-    bounds, columns = [], []
+    up to a total. An idle day has equal prices, no flows and only rejected blocks, so nothing to balance. Its
+    blocks may be split or not, three days in four if it is not said; where not, each least ratio is 0."""
+    bounds, columns, split = [], [], draw.below(4) > 0 if split is None else split
     for _ in range(periods):
         sort = kind or draw.pick(KINDS)
         bounds.append(BOUNDS[sort](draw))
@@ -247,15 +271,15 @@ def make(draw, periods, zones, lines, steps, blocks, kind=None, big=MOST, total=
         for period in range(periods):
             rise = columns[period][target] - columns[period][source]
             flows.append(0 if idle else draw_flow(draw, rise, *both[2 * period:2 * period + 2]))
-    taken = [0 if idle else draw.below(2) for _ in range(blocks)]
-    blocks = [draw_block(draw, zones, periods, prices, each) for each in taken]
+    ratios = [0 if idle else draw_ratio(draw, split) for _ in range(blocks)]
+    blocks = [draw_block(draw, zones, periods, prices, ratio, split) for ratio in ratios]
     rows = [draw_step(draw, zones, periods, prices) for _ in range(steps)]
     codes = draw_codes(draw, zones)
-    balance(draw, Case(bounds, codes, lines, (), blocks, prices, flows, (), taken), rows)
+    balance(draw, Case(bounds, codes, lines, (), blocks, prices, flows, (), ratios), rows)
     rows += [draw_step(draw, zones, periods, prices, empty=True) for _ in range(total - len(rows))]
     draw.shuffle(rows)
     return Case(bounds, codes, lines, [step for step, _ in rows], blocks,
-                prices, flows, [volume for _, volume in rows], taken)
+                prices, flows, [volume for _, volume in rows], ratios)
 
 
 def small(draw):
@@ -274,14 +298,15 @@ def medium(draw):
 
 def maximal(draw):
     """A day with the greatest number of rows in every section."""
-    case = make(draw, 25, 8, 16, 1800, 100, big=20000, total=2000)
-    if [len(file) for file in case.files] != [38258, 10508]:
+    case = make(draw, 25, 8, 16, 1800, 100, big=20000, total=2000, split=True)
+    if [len(file) for file in case.files] != [38258, 10608]:
         raise AssertionError("a maximal day has another size")
     return case
 
 
 def extreme():
-    """A maximal day with every price, flow, volume, quantity and capacity at an end of its range."""
+    """A maximal day with every price, flow, volume, quantity and capacity at an end of its range. Two blocks
+    that offset each other have one ratio: 0, 1,000, 1, 999 or 500, whole at 1,000,000 as any would be."""
     cells = [(zone, period) for zone in range(8) for period in range(25)]
     prices = [MOST if (zone + period) % 2 == 0 else -MOST for zone, period in cells]
     ends = [(even, odd) for even in (0, 2, 4, 6) for odd in (1, 3, 5, 7)]
@@ -291,12 +316,12 @@ def extreme():
         sells = 3 if price > 0 else 7
         steps += [(zone, period, SELL, -MOST, MOST)] * sells
         steps += [(zone, period, BUY, MOST, MOST)] * (10 - sells)
-    blocks = [(pair * 5 % 8, side, MOST if side == BUY else -MOST, (MOST,) * 25)
-              for pair in range(50) for side in (SELL, BUY)]
+    blocks = [(pair * 5 % 8, side, (WHOLE, 0, 1, 2, 500)[pair % 5], MOST if side == BUY else -MOST,
+               (MOST,) * 25) for pair in range(50) for side in (SELL, BUY)]
     return Case([(-MOST, MOST)] * 25, [1, 2, 255, 256, 32767, 32768, 65534, 65535],
                 [(source, target, (MOST,) * 50) for source, target in ends], steps, blocks, prices,
                 [prices[target * 25 + period] for _, target in ends for period in range(25)],
-                [MOST] * 2000, [block // 2 % 2 for block in range(100)])
+                [MOST] * 2000, [(0, WHOLE, 1, 999, 500)[block // 2 % 5] for block in range(100)])
 
 
 def special_days(draw):
@@ -317,9 +342,9 @@ def day_a():
     return Case([(-50000, 300000)], [10, 20], [(0, 1, (500, 200))],
                 [(0, 0, SELL, 2000, 1000), (0, 0, BUY, 3000, 400), (1, 0, SELL, 5000, 800),
                  (1, 0, BUY, 9000, 700)],
-                [(1, SELL, 4500, (300,))], [2000, 5000], [500], [900, 400, 200, 700], [0])
+                [(1, SELL, 0, 4500, (300,))], [2000, 5000], [500], [900, 400, 200, 700], [0])
 
 
-def one_zone(prices, steps=(), volumes=(), blocks=(), taken=()):
+def one_zone(prices, steps=(), volumes=(), blocks=(), ratios=()):
     """One zone with a period for each price, no lines."""
-    return Case([(-50000, 300000)] * len(prices), [10], (), steps, blocks, prices, (), volumes, taken)
+    return Case([(-50000, 300000)] * len(prices), [10], (), steps, blocks, prices, (), volumes, ratios)

@@ -8,6 +8,7 @@ from collections import namedtuple
 from struct import calcsize, iter_unpack, pack, unpack_from
 
 MOST = 1000000             # the end of the ranges of prices, flows, volumes, quantities and capacities
+WHOLE = 1000               # a ratio is in thousandths; this one takes a whole block
 FILE_MOST = 65536          # a program reads this much of a file and no more
 SELL, BUY = 0, 1
 DAY_LIMITS = ((1, 25), (1, 8), (0, 16), (0, 2000), (0, 100))
@@ -15,7 +16,7 @@ TOTALS = ("order value", "buyers", "sellers", "rent", "traded", "shortfall")
 
 Verdict = namedtuple("Verdict", "number first second third", defaults=(0, 0, 0))     # a number and a place
 Day = namedtuple("Day", "bounds codes lines steps blocks ends")
-Clearing = namedtuple("Clearing", "prices flows volumes taken")
+Clearing = namedtuple("Clearing", "prices flows volumes ratios")
 Answer = namedtuple("Answer", "verdict totals codes nets statement")
 ACCEPTED = Verdict(0)
 
@@ -82,12 +83,12 @@ def read_day(file):
     steps = [(zone, period, side, limit, quantity) for zone, period, side, _, limit, quantity in rows]
 
     rows = section(file, ends, "<BBHi%dI" % periods, DAY_LIMITS[4], 1, 2)
-    for row, (zone, side, spare, limit, *quantities) in enumerate(rows):
-        good = [zone < zones, side <= 1, spare == 0, is_price(limit)]
+    for row, (zone, side, least, limit, *quantities) in enumerate(rows):
+        good = [zone < zones, side <= 1, least <= WHOLE, is_price(limit)]
         good += [quantity <= MOST for quantity in quantities]
         good[-1] = good[-1] and any(quantities)     # the last field of a block with no quantity
         keep_ranges(3, 5, row, good)
-    blocks = [(row[0], row[1], row[3], row[4:]) for row in rows]
+    blocks = [(*row[:4], row[4:]) for row in rows]
     if ends[-1] != len(file):
         raise Refusal(4)
     return Day(bounds, codes, lines, steps, blocks, ends)
@@ -99,7 +100,7 @@ def read_clearing(file, day):
     sections = (("<i", len(day.codes) * periods, is_price),
                 ("<i", len(day.lines) * periods, is_price),
                 ("<I", len(day.steps), lambda volume: volume <= MOST),
-                ("<B", len(day.blocks), lambda taken: taken <= 1))
+                ("<H", len(day.blocks), lambda ratio: ratio <= WHOLE))
     read, ends = [], [0]
     for number, (form, count, in_range) in enumerate(sections, 1):
         values = [value for value, in section(file, ends, form, (count, count), 5, 6)]
@@ -134,7 +135,7 @@ def look_up(day_file, number):
 def keep_rules(day, clearing):
     """The net positions of a clearing that keeps all rules, or the first broken rule at its first place."""
     bounds, codes, lines, steps, blocks, _ = day
-    prices, flows, volumes, taken = clearing
+    prices, flows, volumes, ratios = clearing
     periods = len(bounds)
     cells = [(zone, period) for zone in range(len(codes)) for period in range(periods)]
     spans = [(line, period) for line in range(len(lines)) for period in range(periods)]
@@ -151,13 +152,21 @@ def keep_rules(day, clearing):
         if volume > step[4]:
             raise Refusal(13, row)
 
+    for row, (block, ratio) in enumerate(zip(blocks, ratios)):
+        if 0 < ratio < (block[2] or WHOLE):         # a least ratio of 0 stands for 1,000
+            raise Refusal(20, row)
+
+    for row, (block, ratio) in enumerate(zip(blocks, ratios)):
+        for period, quantity in enumerate(block[4]):
+            if quantity * ratio % WHOLE != 0:
+                raise Refusal(21, row, period)
+
     nets = [0] * len(cells)
     for (zone, period, side, _, _), volume in zip(steps, volumes):
         nets[zone * periods + period] += volume if side == SELL else -volume
-    for (zone, side, _, quantities), accepted in zip(blocks, taken):
-        if accepted:
-            for period, quantity in enumerate(quantities):
-                nets[zone * periods + period] += quantity if side == SELL else -quantity
+    for (zone, side, _, _, quantities), ratio in zip(blocks, ratios):
+        for period, volume in enumerate(shares(quantities, ratio)):
+            nets[zone * periods + period] += volume if side == SELL else -volume
     leaving = [0] * len(cells)
     for (line, period), flow in zip(spans, flows):
         leaving[lines[line][0] * periods + period] += flow
@@ -178,18 +187,23 @@ def keep_rules(day, clearing):
         if (rise > 0 and flow != forward[period]) or (rise < 0 and flow != -back[period]):
             raise Refusal(16, line, period)
 
-    for row, (block, accepted) in enumerate(zip(blocks, taken)):
-        if accepted and block_gain(day, clearing, block) < 0:
+    for row, (block, ratio) in enumerate(zip(blocks, ratios)):
+        if ratio > 0 and block_gain(day, clearing, block, block[4]) < 0:
             raise Refusal(17, row)
     return nets
 
 
-def block_gain(day, clearing, block):
-    """The surplus of a whole block at the stated prices, signed, over all its periods."""
-    zone, side, limit, quantities = block
+def shares(quantities, ratio):
+    """The volumes accepted of a block's quantities at a ratio that makes them whole."""
+    return [quantity * ratio // WHOLE for quantity in quantities]
+
+
+def block_gain(day, clearing, block, volumes):
+    """The surplus of so much of a block in each period at the stated prices, signed, over all periods."""
+    zone, side, _, limit, _ = block
     own = clearing.prices[zone * len(day.bounds):]
-    worth = sum(quantity * price for quantity, price in zip(quantities, own))
-    return worth - limit * sum(quantities) if side == SELL else limit * sum(quantities) - worth
+    worth = sum(volume * price for volume, price in zip(volumes, own))
+    return worth - limit * sum(volumes) if side == SELL else limit * sum(volumes) - worth
 
 
 def totals_of(day, clearing):
@@ -198,12 +212,12 @@ def totals_of(day, clearing):
     value, buyers, sellers, rent, traded, shortfall = 0, 0, 0, 0, 0, 0
     orders = [(zone, period, side, limit, volume)
               for (zone, period, side, limit, _), volume in zip(day.steps, clearing.volumes)]
-    for block, accepted in zip(day.blocks, clearing.taken):
-        if accepted:
-            zone, side, limit, quantities = block
-            orders += [(zone, period, side, limit, quantity) for period, quantity in enumerate(quantities)]
-        else:
-            shortfall += max(0, block_gain(day, clearing, block))
+    for block, ratio in zip(day.blocks, clearing.ratios):
+        zone, side, _, limit, quantities = block
+        accepted = shares(quantities, ratio)
+        orders += [(zone, period, side, limit, volume) for period, volume in enumerate(accepted)]
+        left = [quantity - volume for quantity, volume in zip(quantities, accepted)]
+        shortfall += max(0, block_gain(day, clearing, block, left))
     for zone, period, side, limit, volume in orders:
         price = prices[zone * periods + period]
         if side == BUY:
