@@ -8,11 +8,12 @@ clearing. Each kind of change is a function of a case and a generator; it raises
 what was drawn, has no place for it.
 """
 from collections import namedtuple
-from functools import partial
+from functools import partial, reduce
+from math import gcd
 from struct import pack_into
 
-from days import clip
-from judge import ACCEPTED, BUY, DAY_LIMITS, FILE_MOST, MOST, SELL, Verdict, opinion
+from days import clip, unit_of
+from judge import ACCEPTED, DAY_LIMITS, FILE_MOST, MOST, SELL, WHOLE, Verdict, opinion, shares
 
 Change = namedtuple("Change", "edits verdict")
 Field = namedtuple("Field", "file section number at per form least most")
@@ -34,15 +35,16 @@ FIELDS = {              # file, section, number, offset, fields of 4 bytes to th
     "step quantity": Field(0, 4, 5, 8, 0, "<I", 1, MOST),
     "block zone": Field(0, 5, 0, 0, 0, "<B", 0, "zones"),
     "block side": Field(0, 5, 1, 1, 0, "<B", 0, 1),
-    "block spare": Field(0, 5, 2, 2, 0, "<H", 0, 0),
+    "block least": Field(0, 5, 2, 2, 0, "<H", 0, WHOLE),
     "block price": Field(0, 5, 3, 4, 0, "<i", -MOST, MOST),
     "block quantity": Field(0, 5, 4, 8, 1, "<I", 0, MOST),
     "price": Field(1, 1, 0, 0, 0, "<i", -MOST, MOST),
     "flow": Field(1, 2, 0, 0, 0, "<i", -MOST, MOST),
     "volume": Field(1, 3, 0, 0, 0, "<I", 0, MOST),
-    "taken": Field(1, 4, 0, 0, 0, "<B", 0, 1),
+    "ratio": Field(1, 4, 0, 0, 0, "<H", 0, WHOLE),
 }
 NAMES = tuple(FIELDS)
+RULE_ORDER = 11, 12, 13, 20, 21, 14, 15, 16, 17
 
 
 class NoPlace(Exception):
@@ -92,9 +94,10 @@ def ends_of(case, name):
 
 
 def beyond(case, name):
-    """Values of a field outside its range: one beyond, the ends of its form, a lone high bit."""
+    """Values of a field outside its range: one beyond, the ends of its form, a lone high bit, the next with a
+    low byte of 0."""
     (least, most), (first, last) = ends_of(case, name), FORMS[FIELDS[name].form]
-    return [value for value in (least - 1, most + 1, first, last, last // 2 + 1)
+    return [value for value in (least - 1, most + 1, first, last, last // 2 + 1, (most | 255) + 1)
             if first <= value <= last and not least <= value <= most]
 
 
@@ -266,6 +269,14 @@ def room_first(case, draw):
     return Change(change.edits + [("cut", file, end)], Verdict(number - 2, section))
 
 
+def one_byte_blocks(case, _):
+    """A clearing file with one byte a block, as it was when blocks were taken or left: its last section is
+    cut off. Of a day with no blocks it is the same file."""
+    rows = bytes(1 if ratio else 0 for ratio in case.ratios)
+    edits = [("cut", 1, case.starts[1][3] + 2), ("tail", 1, rows)]
+    return Change(edits, Verdict(5, 4) if rows else ACCEPTED)
+
+
 def tail(case, draw):
     """Bytes after the last section: one or many, zeros or any."""
     file = draw.below(2)
@@ -301,7 +312,7 @@ def overlong(case, draw):
     return Change([("whole", file, start + draw.bytes(length - len(start)))], None)
 
 
-# ---- rules: 11 to 17
+# ---- rules: 11 to 17, 20 and 21
 
 def price_out(case, draw):
     """A price below its floor or above its ceiling."""
@@ -357,6 +368,33 @@ def quantity_passed(case, draw):
     return Change([(name, row, value)], Verdict(13, row))
 
 
+def least_missed(case, draw):
+    """A ratio above 0 and below the least, by the ratio or by the least; a least of 0 stands for 1,000."""
+    row = spot(draw, len(case.blocks))
+    least, ratio = case.blocks[row][2] or WHOLE, case.ratios[row]
+    name, value = draw.pick((("ratio", least - 1), ("ratio", 1), ("ratio", draw.below(least)),
+                             ("block least", min(WHOLE, ratio + 1)), ("block least", 0)))
+    need(0 < value < least if name == "ratio" else 0 < ratio < (value or WHOLE))
+    return Change([(name, row, value)], Verdict(20, row))
+
+
+def share_broken(case, draw):
+    """A volume not whole: one more or less of a quantity, or both in two periods so that the sum stays whole;
+    or another ratio."""
+    row, period = spot(draw, len(case.blocks)), spot(draw, case.periods)
+    quantities, ratio = list(case.blocks[row][4]), case.ratios[row]
+    moves = draw.pick(((), [(period, 1)], [(period, -1)], [(period, 1), (spot(draw, case.periods), -1)]))
+    for at, more in moves:
+        quantities[at] += more
+    edits = [("block quantity", row, quantities[at], at) for at, _ in moves]
+    if not moves:
+        ratio = draw.pick((1, 500, 999, draw.between(1, 999)))
+        edits = [("ratio", row, ratio), ("block least", row, draw.between(1, ratio))]
+    broken = [at for at, quantity in enumerate(quantities) if quantity * ratio % WHOLE]
+    need(broken and min(quantities) >= 0 and max(quantities) <= MOST)
+    return Change(edits, Verdict(21, row, broken[0]))
+
+
 def absorbed(case, spared, nets):
     """Edits of steps at the money, but the spared one, that move the net positions of cells by so much."""
     edits = []
@@ -395,17 +433,23 @@ def volume_off(case, draw, settled=False):
     return Change(edits + [edit], Verdict(15, row) if case.gain(row) else ACCEPTED)
 
 
-def block_turned(case, draw, settled=False):
-    """A block taken or left: 14; with the steps to match wrong only if it is taken and does not pay."""
+def ratio_moved(case, draw, settled=False):
+    """Another ratio that the least and the quantities allow: 14; with the steps to match wrong only if it is
+    above 0 and the block does not pay."""
     row = spot(draw, len(case.blocks))
-    (zone, side, limit, quantities), taken = case.blocks[row], case.taken[row]
-    edit = "taken", row, 1 - taken
+    (zone, side, least, limit, quantities), ratio = case.blocks[row], case.ratios[row]
+    grain = unit_of(gcd(*quantities))               # ratios that make whole volumes are this far apart
+    first = -(-(least or WHOLE) // grain) * grain
+    values = [value for value in (first, WHOLE, ratio - grain, ratio + grain) if value >= first]
+    value = other(draw, ratio, values + [0], 0, WHOLE)
+    edit = "ratio", row, value
     if not settled:
         return Change([edit], Verdict(14, zone, first_above(quantities)))
-    sign = 1 if (side == BUY) != bool(taken) else -1
-    edits = absorbed(case, None, [(zone, period, sign * each) for period, each in enumerate(quantities)])
+    both_shares = zip(shares(quantities, ratio), shares(quantities, value))
+    edits = absorbed(case, None, [(zone, period, old - new if side == SELL else new - old)
+                                  for period, (old, new) in enumerate(both_shares)])
     best = case.last_paying(row)
-    pays = taken or (limit <= best if side == SELL else limit >= best)
+    pays = value == 0 or (limit <= best if side == SELL else limit >= best)
     return Change(edits + [edit], ACCEPTED if pays else Verdict(17, row))
 
 
@@ -427,13 +471,14 @@ def step_moved(case, draw):
 
 
 def block_moved(case, draw):
-    """An accepted block on the other side, or with one more in a period."""
+    """An accepted block on the other side, or with more in a period, the least that its ratio makes whole."""
     row, period = spot(draw, len(case.blocks)), spot(draw, case.periods)
-    zone, side, _, quantities = case.blocks[row]
-    need(case.taken[row] and quantities[period] < MOST)
+    zone, side, _, _, quantities = case.blocks[row]
+    more = quantities[period] + unit_of(case.ratios[row])
+    need(case.ratios[row] and more <= MOST)
     if draw.below(2):
         return Change([("block side", row, 1 - side)], Verdict(14, zone, first_above(quantities)))
-    return Change([("block quantity", row, quantities[period] + 1, period)], Verdict(14, zone, period))
+    return Change([("block quantity", row, more, period)], Verdict(14, zone, period))
 
 
 def line_moved(case, draw):
@@ -473,7 +518,7 @@ def capacity_left(case, draw):
 def limit_unpaid(case, draw):
     """An accepted block's limit one or more beyond the last that pays."""
     row = spot(draw, len(case.blocks))
-    need(case.taken[row])
+    need(case.ratios[row])
     more = draw.pick((1, 1, 1, draw.between(1, 3000)))
     value = case.last_paying(row) + (more if case.blocks[row][1] == SELL else -more)
     need(abs(value) <= MOST)
@@ -494,20 +539,33 @@ def left_alone(case, draw):
         edit = draw.pick((("floor", -MOST), ("ceiling", MOST)))
         return Change([(edit[0], spot(draw, case.periods), edit[1])], ACCEPTED)
     row = spot(draw, len(case.blocks))
-    need(not case.taken[row])
+    need(not case.ratios[row])
     period = spot(draw, case.periods)
     edit = draw.pick((("block price", row, clip(draw.between(-2 * MOST, 2 * MOST))),
                       ("block quantity", row, draw.pick((1, MOST)), period)))
     return Change([edit], ACCEPTED)
 
 
+def least_met(case, draw):
+    """Another least ratio that the ratio does not miss: still accepted."""
+    row = spot(draw, len(case.blocks))
+    least, ratio = case.blocks[row][2], case.ratios[row]
+    value = other(draw, least, (0, 1, ratio, WHOLE, draw.between(0, WHOLE)), 0, WHOLE)
+    need(ratio == 0 or (value or WHOLE) <= ratio)
+    return Change([("block least", row, value)], ACCEPTED)
+
+
 # ---- two at once
 
 READING = (out_of_range, bounds_crossed, code_not_above, same_ends, no_quantity, count_wrong,
-           cut_off, tail)
-RULES = (price_out, bounds_inside, flow_out, capacity_short, quantity_passed, flow_off, volume_off,
-         block_turned, step_moved, block_moved, line_moved, limit_crossed, capacity_left, limit_unpaid)
-BALANCED = tuple(partial(kind, settled=True) for kind in (flow_off, volume_off, block_turned)) + (left_alone,)
+           cut_off, one_byte_blocks, tail)
+RULES = (price_out, bounds_inside, flow_out, capacity_short, quantity_passed, least_missed, share_broken,
+         flow_off, volume_off, ratio_moved, step_moved, block_moved, line_moved, limit_crossed, capacity_left,
+         limit_unpaid)
+BALANCED = (*(partial(kind, settled=True) for kind in (flow_off, volume_off, ratio_moved)), left_alone,
+            least_met)
+ONE_EACH = (price_out, flow_out, quantity_passed, least_missed, share_broken, volume_off, limit_crossed,
+            capacity_left, limit_unpaid)        # of each rule one kind, in the order of the rules
 
 
 def touched(case, edit):
@@ -535,7 +593,7 @@ def order(verdict):
     if number < 8:
         stage = (number - 1) % 4
         return number // 5, first, (2, 1, 3)[stage], second, third
-    return (2,) + verdict
+    return 2, RULE_ORDER.index(number), first, second
 
 
 def both(one, two):
@@ -576,15 +634,23 @@ def twice(case, draw, kind=None):
     kind = kind or draw.pick(TWICE)
     one, two = kind(case, draw), kind(case, draw)
     (number, row, period, _), (_, other_row, other_period, _) = one.verdict, two.verdict
-    need((row - other_row) * (period - other_period) < 0 or (number in (13, 15, 17) and row != other_row))
+    need((row - other_row) * (period - other_period) < 0 or (number in (13, 15, 17, 20) and row != other_row))
     return joined(case, one, two)
 
 
-TWICE = (out_of_range, price_out, flow_out, quantity_passed, flow_off, volume_off, limit_crossed,
-         capacity_left, limit_unpaid)
+def rest_broken(case, draw, first=None):
+    """Each rule from one of them on broken once, at places that have nothing in common."""
+    first = draw.below(len(ONE_EACH)) if first is None else first
+    change = reduce(partial(joined, case), [kind(case, draw) for kind in ONE_EACH[first:]])
+    need(change.verdict is not None)
+    return change
+
+
+TWICE = (out_of_range, price_out, flow_out, quantity_passed, least_missed, share_broken, flow_off, volume_off,
+         limit_crossed, capacity_left, limit_unpaid)
 DAMAGE = (flipped, replaced, count_first, room_first, price_moved)
 KINDS = (READING + RULES * 2 + BALANCED * 2 + DAMAGE + (two_faults,) * 8 + (twice,) * 4
-         + (out_of_range, flipped, price_moved, two_fields, two_fields))
+         + (out_of_range, flipped, price_moved, two_fields, two_fields, rest_broken))
 
 
 def drawn(draw, cases, kinds=KINDS):
