@@ -94,10 +94,9 @@ def ends_of(case, name):
 
 
 def beyond(case, name):
-    """Values of a field outside its range: one beyond, the ends of its form, a lone high bit, the next with a
-    low byte of 0."""
+    """Values of a field outside its range: one beyond, the ends of its form, a lone high bit."""
     (least, most), (first, last) = ends_of(case, name), FORMS[FIELDS[name].form]
-    return [value for value in (least - 1, most + 1, first, last, last // 2 + 1, (most | 255) + 1)
+    return [value for value in (least - 1, most + 1, first, last, last // 2 + 1)
             if first <= value <= last and not least <= value <= most]
 
 
@@ -303,9 +302,10 @@ def replaced(case, draw):
     return Change([("whole", file, value)], None if value else Verdict(5 if file else 1, 1))
 
 
-def overlong(case, draw):
+def overlong(case, draw, file=None):
     """A file as long as is read or longer: a good one with a tail, or random bytes behind a good start."""
-    file, length = draw.below(2), FILE_MOST + draw.pick((0, 1, 2, draw.below(3000)))
+    file = draw.below(2) if file is None else file
+    length = FILE_MOST + draw.pick((0, 1, 2, draw.below(3000)))
     if draw.below(3):
         return Change([("tail", file, bytes(length - len(case.files[file])))], Verdict(8 if file else 4))
     start = draw.pick((b"", case.files[file][:draw.below(60)]))

@@ -10,15 +10,15 @@ from itertools import combinations, combinations_with_replacement, product
 from struct import iter_unpack, pack
 
 from days import Case, Draw, day_a, extreme, make, maximal, medium, one_zone, small, special_days
-from faults import (BALANCED, DAMAGE, FIELDS, NAMES, READING, RULES, TWICE, altered, bad_value, beyond, both,
-                    capacity_left, count_put, counts, cut_at, cuts, drawn, ends_of, joined, judged,
-                    limit_unpaid, overlong, row_faults, twice, two_faults)
-from judge import ACCEPTED, BUY, MOST, SELL, Verdict, look_up, opinion, reading, report
+from faults import (BALANCED, DAMAGE, FIELDS, NAMES, ONE_EACH, READING, RULES, TWICE, Change, altered,
+                    bad_value, beyond, both, count_put, counts, cut_at, cuts, drawn, ends_of, joined, judged,
+                    limit_unpaid, one_byte_blocks, overlong, rest_broken, row_faults, twice, two_faults)
+from judge import ACCEPTED, BUY, MOST, SELL, WHOLE, Verdict, look_up, opinion, reading, report
 
 ROOT = os.path.dirname(os.path.dirname(os.path.abspath(__file__)))
 SECTIONS = [(0, section) for section in range(1, 6)] + [(1, section) for section in range(1, 5)]
 ROW_FIELDS = (2, 1, 52, 6, 29)                # of each day section, where there are 25 periods
-NUMBERS = [0, 1, 2, 3, 4, 5, 6, 7, 8, 11, 12, 13, 14, 15, 16, 17]
+NUMBERS = [0, 1, 2, 3, 4, 5, 6, 7, 8, 11, 12, 13, 14, 15, 16, 17, 20, 21]
 SAMPLE = """verdict 0 0 0 0
 order value 4700000
 buyers 3200000
@@ -29,7 +29,7 @@ shortfall 150000
 net 10 0 500
 net 20 0 -500
 """
-C8 = [("taken", 0, 1), ("flow", 0, 400), ("volume", 0, 800), ("volume", 2, 0), ("price", 1, 2000)]
+C8 = [("ratio", 0, WHOLE), ("flow", 0, 400), ("volume", 0, 800), ("volume", 2, 0), ("price", 1, 2000)]
 CASES = (                                     # C1 to C11 of the paper: edits of day A and the verdict
     ([], ACCEPTED),
     ([("flow", 0, 499), ("volume", 0, 899), ("volume", 2, 201)], Verdict(16)),
@@ -41,17 +41,66 @@ CASES = (                                     # C1 to C11 of the paper: edits of
     (C8, Verdict(17)),
     (C8 + [("price", 1, 4500)], Verdict(16)),
     ([("flow", 0, 501), ("volume", 0, 1001)], Verdict(12)),
-    ([("block quantity", 0, 200), ("block price", 0, 5000), ("taken", 0, 1), ("volume", 2, 0)], ACCEPTED))
-BLOCKS = (                                    # side, limit, quantities, prices, taken, number, shortfall
-    (SELL, 4000, (100, 300), (6000, 3200), 1, 17, 0), (SELL, 3901, (100, 300), (6000, 3200), 1, 17, 0),
-    (SELL, 3900, (100, 300), (6000, 3200), 1, 0, 0), (SELL, 4000, (100, 300), (6000, 3200), 0, 0, 0),
-    (SELL, 3899, (100, 300), (6000, 3200), 0, 0, 400), (BUY, 4000, (100, 300), (6000, 3200), 1, 0, 0),
-    (BUY, 3900, (100, 300), (6000, 3200), 1, 0, 0), (BUY, 3899, (100, 300), (6000, 3200), 1, 17, 0),
-    (BUY, 4000, (100, 300), (6000, 3200), 0, 0, 40000), (SELL, 4000, (1, 2), (3999, 4000), 1, 17, 0),
-    (SELL, 3999, (1, 2), (3999, 4000), 1, 0, 0), (SELL, 4000, (1, 2), (4001, 4000), 1, 0, 0),
-    (BUY, 4000, (1, 2), (4001, 4000), 1, 17, 0), (BUY, 4001, (1, 2), (4001, 4000), 1, 0, 0),
-    (SELL, -4000, (1, 2), (-4001, -4000), 1, 17, 0), (BUY, -4000, (1, 2), (-3999, -4000), 1, 17, 0),
-    (SELL, 0, (1, 2), (-1, 0), 1, 17, 0), (BUY, 0, (1, 2), (1, 0), 1, 17, 0))
+    ([("block quantity", 0, 200), ("block price", 0, 5000), ("ratio", 0, WHOLE), ("volume", 2, 0)], ACCEPTED))
+BLOCKS = (              # quantities, prices; then side, least ratio, limit, ratio, number, shortfall
+    ((100, 300), (6000, 3200), [
+        (SELL, 0, 4000, 1000, 17, 0), (SELL, 0, 3901, 1000, 17, 0), (SELL, 0, 3900, 1000, 0, 0),
+        (SELL, 0, 4000, 0, 0, 0), (SELL, 0, 3899, 0, 0, 400), (BUY, 0, 4000, 1000, 0, 0),
+        (BUY, 0, 3900, 1000, 0, 0), (BUY, 0, 3899, 1000, 17, 0), (BUY, 0, 4000, 0, 0, 40000),
+        (SELL, 1, 3899, 500, 0, 200), (SELL, 1, 3899, 250, 0, 300), (SELL, 10, 3899, 10, 0, 396),
+        (SELL, 990, 3899, 990, 0, 4), (SELL, 1, 3899, 1000, 0, 0), (SELL, 1, 3899, 0, 0, 400),
+        (SELL, 1, 3900, 500, 0, 0), (SELL, 1, 3901, 500, 17, 0), (SELL, 1, 3901, 10, 17, 0),
+        (BUY, 1, 4000, 500, 0, 20000), (BUY, 750, 4000, 750, 0, 10000), (BUY, 1, 3900, 10, 0, 0),
+        (BUY, 1, 3899, 990, 17, 0)]),
+    ((1, 2), (3999, 4000), [(SELL, 0, 4000, 1000, 17, 0), (SELL, 0, 3999, 1000, 0, 0)]),
+    ((1, 2), (4001, 4000), [
+        (SELL, 0, 4000, 1000, 0, 0), (BUY, 0, 4000, 1000, 17, 0), (BUY, 0, 4001, 1000, 0, 0)]),
+    ((1, 2), (-4001, -4000), [(SELL, 0, -4000, 1000, 17, 0)]),
+    ((1, 2), (-3999, -4000), [(BUY, 0, -4000, 1000, 17, 0)]),
+    ((1, 2), (-1, 0), [(SELL, 0, 0, 1000, 17, 0)]),
+    ((1, 2), (1, 0), [(BUY, 0, 0, 1000, 17, 0)]),
+    ((2, 4), (3999, 4000), [(SELL, 1, 4000, 500, 17, 0)]),
+    ((2, 4), (4001, 4000), [(SELL, 1, 4000, 500, 0, 1)]),
+    ((1000, 2000), (4001, 4000), [
+        (SELL, 1, 4000, 1, 0, 999), (SELL, 1, 4000, 999, 0, 1), (BUY, 1, 4000, 1, 17, 0)]),
+    ((2, 4), (-3900, -4010), [(SELL, 1, -4000, 500, 0, 80)]),
+    ((2, 4), (-3990, -4006), [(SELL, 1, -4000, 500, 17, 0)]),
+    ((2, 4), (-4100, -3990), [(BUY, 1, -4000, 500, 0, 80)]),
+    ((2, 4), (-4010, -3994), [(BUY, 1, -4000, 500, 17, 0)]),
+    ((2, 4), (-2, 1), [(SELL, 1, 0, 500, 0, 0)]),
+    ((0, 4), (300, -1), [(BUY, 1, 0, 250, 0, 3)]))
+SEVERAL = (             # one day's blocks at a price of 4,000: side, least, limit, quantity, ratio, shortfall
+    (SELL, 1, 3999, 4, 500, 2), (SELL, 0, 4100, 10, 0, 0), (BUY, 1, 4050, 10, 200, 400),
+    (BUY, 500, 4050, 2, 500, 50), (SELL, 1, 3900, 5, 200, 400), (BUY, 0, 3000, 10, 0, 0),
+    (SELL, 0, 3000, 10, 1000, 0))
+RATIOS = (              # number and place; of each block, all sell at the price, least, quantities, ratio
+    ((0,), (0, (1,), 0), (0, (1,), 1000), (1000, (1,), 0), (1000, (1,), 1000), (1, (1,), 0), (1, (1,), 1000)),
+    ((0,), (1, (1000,), 1), (1, (1000,), 999), (999, (1000,), 999), (500, (2,), 500), (499, (2,), 500)),
+    ((0,), (8, (125,), 8), (255, (1000,), 256), (256, (125,), 256), (232, (125,), 232), (1, (125,), 1000)),
+    ((0,), (1, (2, 0, 998), 500)), ((0,), (1, (0, 2, 0), 500)), ((0,), (3, (1000, 3000, 999000), 3)),
+    ((20,), (0, (1000,), 1)), ((20,), (0, (1000,), 999)), ((20,), (0, (2,), 500)), ((20,), (0, (1,), 256)),
+    ((20,), (1000, (1000,), 999)), ((20,), (1000, (1000,), 232)), ((20,), (500, (1000,), 499)),
+    ((20,), (501, (2,), 500)), ((20,), (999, (1000,), 998)), ((20,), (2, (1000,), 1)),
+    ((20,), (256, (1000,), 255)), ((20,), (256, (1000,), 1)), ((20,), (768, (1000,), 232)),
+    ((20, 1), (0, (2,), 1000), (0, (2,), 500), (600, (2,), 500)),
+    ((20, 2), (1, (2,), 500), (500, (2,), 500), (501, (2,), 500)), ((20, 1), (0, (2,), 0), (0, (2,), 500)),
+    ((20, 1), (1, (1,), 500), (0, (2,), 500)), ((20,), (0, (2,), 500), (1, (1,), 500)), ((20,), (0, (1,), 1)),
+    ((20, 2), (1, (1, 2), 500), (1, (2, 1), 500), (501, (1, 1), 500)),
+    ((21,), (1, (1,), 1)), ((21,), (1, (1,), 500)), ((21,), (1, (1,), 999)), ((21,), (999, (1,), 999)),
+    ((21,), (1, (999,), 1)), ((21,), (1, (1001,), 1)), ((21,), (1, (500,), 1)), ((21,), (1, (125,), 4)),
+    ((21,), (1, (1, 999), 500)), ((21,), (1, (999, 1), 500)), ((21, 0, 1), (1, (2, 999), 500)),
+    ((21, 0, 1), (1, (2, 1, 1), 500)), ((21, 0, 2), (1, (2, 2, 1), 500)), ((21, 0, 1), (1, (0, 1), 500)),
+    ((21,), (1, (999999, 1000000), 1)), ((21, 0, 1), (1, (1000000, 999999), 1)), ((21,), (1, (333, 667), 3)),
+    ((21,), (1, (1,), 500), (1, (1,), 500)), ((21, 1), (1, (2, 2), 500), (1, (1, 2), 500)),
+    ((21, 0, 1), (1, (2, 1), 500), (1, (1, 2), 500)), ((21, 1), (0, (1,), 1000), (1, (1,), 500)),
+    ((21, 1), (0, (1,), 0), (1, (3,), 250), (1, (1,), 250)))
+ORDER = (               # edits of a day of two blocks, at half, with the verdict of each, in the rules' order
+    (("step quantity", 1, 1), Verdict(13, 1)), (("block least", 1, 501), Verdict(20, 1)),
+    (("block quantity", 0, 1, 0), Verdict(21)), (("volume", 0, 1), Verdict(14)),
+    (("step price", 0, 3999), Verdict(15)), (("block price", 1, 4001), Verdict(17, 1)))
+CORNERS = (             # blocks, periods, block rows and periods to break
+    (100, 25, (0, 50, 99), (0, 12, 24)), (100, 1, (1, 49, 98), (0,)), (1, 25, (0,), range(25)),
+    (3, 3, (0, 1, 2), (0, 1, 2)))
 STEPS = (                                     # side, limit, price, volume of 300, number
     (SELL, -100, -50, 300, 0), (SELL, -100, -50, 0, 15), (SELL, -100, -50, 299, 15), (SELL, -50, -100, 1, 15),
     (BUY, -100, -50, 0, 0), (BUY, -100, -50, 300, 15), (BUY, -50, -100, 299, 15), (SELL, -1, 1, 0, 15),
@@ -62,13 +111,24 @@ LINES = (                                     # forward, back, price "from", pri
     (500, 200, 5000, 2000, 0, 16), (500, 200, 2000, 2000, 123, 0), (500, 0, 5000, 2000, 0, 0))
 
 
+def blocks_alone(prices, blocks, ratios):
+    """One zone with blocks, and for each period a sell and a buy step at the price that take up what is
+    accepted of them all, rounded down where it is not whole."""
+    steps = [(0, period, side, price, MOST) for period, price in enumerate(prices) for side in (SELL, BUY)]
+    volumes = [sum(ratio * block[4][period] for block, ratio in zip(blocks, ratios) if block[1] != side)
+               // WHOLE for _, period, side, _, _ in steps]
+    return one_zone(prices, steps, volumes, blocks, ratios)
+
+
 def trade_errors():
     """The errors that this trade has made: cases with their verdict and shortfall."""
-    for side, limit, quantities, prices, taken, number, shortfall in BLOCKS:
-        steps = [(0, period, 1 - side, prices[period], each) for period, each in enumerate(quantities)]
-        volumes = [each * taken for each in quantities]
-        case = one_zone(prices, steps, volumes, [(0, side, limit, quantities)], [taken])
-        yield case, Verdict(number), shortfall
+    for quantities, prices, rows in BLOCKS:
+        for side, least, limit, ratio, number, shortfall in rows:
+            case = blocks_alone(prices, [(0, side, least, limit, quantities)], [ratio])
+            yield case, Verdict(number), shortfall
+    blocks = [(0, side, least, limit, (quantity,)) for side, least, limit, quantity, _, _ in SEVERAL]
+    yield (blocks_alone((4000,), blocks, [row[4] for row in SEVERAL]), ACCEPTED,
+           sum(row[5] for row in SEVERAL))
     for side, limit, price, volume, number in STEPS:
         steps = [(0, 0, 1 - side, price, 500), (0, 0, side, limit, 300)]
         yield one_zone([price], steps, [volume, volume]), Verdict(number, 1 if number else 0), 0
@@ -89,6 +149,41 @@ def paper_pairs():
         if answer.verdict == ACCEPTED and answer.totals[5] != shortfall:
             raise AssertionError("a shortfall is %d and should be %d" % (answer.totals[5], shortfall))
         yield case.files, verdict
+
+
+def ratio_pairs():
+    """Ratios allowed, missing the least and making no whole volumes, known by hand."""
+    for verdict, *rows in RATIOS:
+        blocks = [(0, SELL, least, 4000, quantities) for least, quantities, _ in rows]
+        case = blocks_alone((4000,) * len(rows[0][1]), blocks, [ratio for _, _, ratio in rows])
+        yield case, Change([], Verdict(*verdict))
+        yield case, one_byte_blocks(case, None)
+    case = blocks_alone((4000,), [(0, SELL, 1, 4000, (2,))] * 2, [500, 500])
+    for count in range(len(ORDER) + 1):
+        for chosen in combinations(ORDER, count):
+            yield case, Change([edit for edit, _ in chosen], chosen[0][1] if chosen else ACCEPTED)
+    for count, periods, rows, columns in CORNERS:
+        yield from corners(even_blocks(count, periods), rows, columns)
+
+
+def even_blocks(count, periods):
+    """A day of blocks at the price, each with its ratio as its least, of which any makes whole volumes."""
+    ratios = [999 - 9 * row for row in range(count)]
+    blocks = [(0, row % 2, ratio, 4000, (WHOLE,) * periods) for row, ratio in enumerate(ratios)]
+    return blocks_alone((4000,) * periods, blocks, ratios)
+
+
+def corners(case, rows, columns):
+    """20 at each of the rows and 21 at each of the rows and periods; then two at once: 20 in the last row
+    with 20 and with 21 in the first, 21 in the first row's last period with 21 in the last row's first."""
+    missed = [Change([("ratio", row, case.ratios[row] - 1)], Verdict(20, row)) for row in rows]
+    broken = [Change([("block quantity", row, WHOLE - 1, period)], Verdict(21, row, period))
+              for row in rows for period in columns]
+    for change in (Change([], ACCEPTED), one_byte_blocks(case, None), *missed, *broken):
+        yield case, change
+    for one, two in ((missed[-1], missed[0]), (missed[-1], broken[0]),
+                     (broken[-len(columns)], broken[len(columns) - 1])):
+        yield case, both(one, two)
 
 
 def changes_by_table(case):
@@ -199,18 +294,21 @@ def largest(draw):
     full, mixed = extreme(), maximal(draw)
     yield tuple(mixed.files), ACCEPTED
     for edits, verdict in (([], ACCEPTED), ([("volume", 1999, MOST - 1)], Verdict(14, 7, 24)),
-                           ([("taken", 99, 0)], Verdict(14, 5)),
-                           ([("price", 199, -MOST - 1)], Verdict(7, 1, 199)),
+                           ([("ratio", row, WHOLE) for row in range(100)], ACCEPTED),
+                           ([("ratio", row, 0) for row in range(100)], ACCEPTED),
+                           ([("ratio", 99, 499)], Verdict(20, 99)),
+                           ([("block quantity", 99, MOST - 1, 24)], Verdict(21, 99, 24)),
                            ([("step spare", 1999, 1)], Verdict(3, 4, 1999, 3))):
         yield altered(full, edits), verdict
-    for kind in (capacity_left, limit_unpaid):
-        yield drawn(draw, [mixed], [kind])
+    yield drawn(draw, [mixed], [limit_unpaid])
 
 
 def archive_pairs():
     """The pairs of the archive with their verdicts, those known by construction; each pair once."""
     draw = Draw(1)
     yield from paper_pairs()
+    for case, change in ratio_pairs():
+        yield altered(case, change.edits), change.verdict
     table = make(Draw(3), 3, 3, 3, 6, 3)
     for change in changes_by_table(table):
         yield altered(table, change.edits), change.verdict
@@ -220,11 +318,14 @@ def archive_pairs():
     yield from range_ends(cases[:80])
     yield from two_at_once(draw, cases)
     for kind in READING + RULES + BALANCED + DAMAGE + (two_faults,) * 6:
-        for _ in range(32):
+        for _ in range(24):
             yield drawn(draw, cases, [kind])
+    for first in range(len(ONE_EACH)):
+        for _ in range(3):
+            yield drawn(draw, cases[-25:], [partial(rest_broken, first=first)])
     yield from largest(draw)
-    for _ in range(7):
-        yield drawn(draw, cases, [overlong])
+    for file in (0, 1, 0, 1):
+        yield drawn(draw, cases, [partial(overlong, file=file)])
     yield from fields_by_table(table)
 
 
@@ -250,6 +351,15 @@ def room_records():
             missing.remove(verdict.number)
             yield files, len(opinion(*case.files).statement), verdict
     yield altered(day_a(), CASES[7][0]), 0, Verdict(17)
+    halves = even_blocks(3, 2)
+    for room in (0, 59, 60, 61):
+        yield halves.files, room, ACCEPTED if room >= 60 else Verdict(18)
+    for case, change in corners(halves, (0, 1, 2), (0, 1)):
+        if change.verdict.number >= 20:
+            yield altered(case, change.edits), 0, change.verdict
+    for case in (day_a(), halves, one_zone([2000])):
+        change = one_byte_blocks(case, None)
+        yield altered(case, change.edits), 60, change.verdict
     for case, which in ((day_a(), 0), (make(draw, 3, 2, 2, 2, 2), -1)):
         for change in last_faults(case, which):
             yield altered(case, change.edits), len(opinion(*case.files).statement), change.verdict
@@ -264,6 +374,7 @@ def reading_cases(case, edits):
     yield "two empty files", (b"", b""), Verdict(1, 1)
     yield "day A with one byte more", (day + b"\0", clearing), Verdict(4)
     yield "clearing A with one byte more", (day, clearing + b"\0"), Verdict(8)
+    yield "clearing A with one byte a block", (day, clearing[:-1]), Verdict(5, 4)
     names = "day", "clearing"
     for file, name in enumerate(names):
         for length in range(len(case.files[file])):
@@ -277,7 +388,7 @@ def reading_cases(case, edits):
 def tally(name, verdicts, sizes):
     """Print how many pairs and bytes a set has, and of each number how many and at how many places."""
     numbers = sorted({verdict.number for verdict in verdicts})
-    if numbers[:len(NUMBERS)] != NUMBERS:
+    if not set(NUMBERS) <= set(numbers):
         raise AssertionError("the set %s does not reach every number" % name)
     counts = []
     for number in numbers:
@@ -296,6 +407,16 @@ def check_fields(verdicts):
         raise AssertionError("the set does not reach every section of the clearing file")
     if any(verdict.third for verdict in verdicts if verdict.number != 3):
         raise AssertionError("a field is named that is not a day's")
+
+
+def check_ratios(verdicts):
+    """20 is met in the first, the middle and the last of 100 blocks, 21 there too in the first, the middle
+    and the last of 25 periods."""
+    _, _, rows, columns = CORNERS[0]
+    if not {Verdict(20, row) for row in rows} <= set(verdicts):
+        raise AssertionError("the set does not reach 20 in every corner")
+    if not {Verdict(21, row, period) for row in rows for period in columns} <= set(verdicts):
+        raise AssertionError("the set does not reach 21 in every corner")
 
 
 def stored(name):
@@ -326,6 +447,7 @@ def write_archive(folder):
         raise AssertionError("the sample day is reported otherwise")
     stdin, stdout = b"".join(framed), "".join(text).encode()
     check_fields(verdicts)
+    check_ratios(verdicts)
     write(folder, "crates/archive/stdin", stdin)
     write(folder, "crates/archive/stdout", stdout)
     tally("archive", verdicts, (len(stdin), len(stdout)))
