@@ -650,7 +650,8 @@ TWICE = (out_of_range, price_out, flow_out, quantity_passed, least_missed, share
          limit_crossed, capacity_left, limit_unpaid)
 DAMAGE = (flipped, replaced, count_first, room_first, price_moved)
 KINDS = (READING + RULES * 2 + BALANCED * 2 + DAMAGE + (two_faults,) * 8 + (twice,) * 4
-         + (out_of_range, flipped, price_moved, two_fields, two_fields, rest_broken))
+         + (out_of_range, flipped, price_moved, two_fields, two_fields, rest_broken,
+            least_missed, share_broken, share_broken))
 
 
 def drawn(draw, cases, kinds=KINDS):
