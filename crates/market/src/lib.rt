@@ -239,7 +239,7 @@ fn flow_at(end: usize, flow: i64, zone: usize) -> i64
     if zone == end { flow } else { 0 }
 }
 
-fn less(a: i64, b: i64) -> i64
+pub fn less(a: i64, b: i64) -> i64
     requires { ⌜ SFits w64 (a -ℤ b) ⌝ }
     ensures { λ r. ⌜ r ≡ a -ℤ b ⌝ }
 {

@@ -1,6 +1,5 @@
 -- The sums over the rows of two files, as their loops make them. Assumes nothing.
 use Prim.Native.Nat.{ℕ, _<_}
-use mathlib.Core.Bool.{Bool}
 use mathlib.Core.List.{List}
 use lib.IntN.{ℤ, _-ℤ_}
 use Rattle.whole.specs.Whole.{sum}
@@ -28,21 +27,22 @@ pub record Priceable (clearing : List ℕ) (c : Counts) (t : Trade) : Type 0 whe
   pub small : Small t (pricesOf c clearing (t .zone) (t .period))
 
 module _ (c : Counts) (day clearing : List ℕ) where
-  abbrev pub blockTrade : ℕ → ℕ → Bool → Trade
-  blockTrade k period taken = market.blockTrade (blockOf c day k) period (market.blockVolume taken (quantityOf c day k period))
+  abbrev pub blockTrade : ℕ → ℕ → ℕ → Trade
+  blockTrade k period ratio = market.blockTrade (blockOf c day k) period (market.blockVolume ratio (quantityOf c day k period))
 
   abbrev pub oneStep : Measure → ℕ → ℤ
   oneStep m = stepMeasured (dayOf c day) (pricesOf c clearing) (choiceOf c clearing) m
 
-  -- one period of a block, that is taken or not
-  abbrev pub onePeriod : Measure → ℕ → Bool → ℕ → ℤ
-  onePeriod m k taken period = priced m (pricesOf c clearing) (blockTrade k period taken)
+  -- one period of a block, and all its periods, at a ratio
+  abbrev pub onePeriod : Measure → ℕ → ℕ → ℕ → ℤ
+  onePeriod m k ratio period = priced m (pricesOf c clearing) (blockTrade k period ratio)
 
-  abbrev pub wholeBlock : Measure → ℕ → Bool → ℤ
-  wholeBlock m k taken = blockMeasured (dayOf c day) (pricesOf c clearing) m k taken
+  abbrev pub overPeriods : Measure → ℕ → ℕ → ℤ
+  overPeriods m k ratio = blockMeasured (dayOf c day) (pricesOf c clearing) m k ratio
 
+  -- at the accepted ratio
   abbrev pub oneBlock : Measure → ℕ → ℤ
-  oneBlock m k = wholeBlock m k (choiceOf c clearing .taken k)
+  oneBlock m k = overPeriods m k (choiceOf c clearing .ratio k)
 
   -- over all that is accepted
   abbrev pub everything : Measure → ℤ
@@ -53,6 +53,9 @@ module _ (c : Counts) (day clearing : List ℕ) where
 
   abbrev pub wholeSurplus : ℕ → ℤ
   wholeSurplus = market.wholeSurplus (dayOf c day) (pricesOf c clearing)
+
+  abbrev pub leftSurplus : ℕ → ℤ
+  leftSurplus = market.leftSurplus (dayOf c day) (pricesOf c clearing) (choiceOf c clearing)
 
   abbrev pub missed : ℕ → ℤ
   missed = market.missed (dayOf c day) (pricesOf c clearing) (choiceOf c clearing)

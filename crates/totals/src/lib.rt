@@ -5,9 +5,10 @@ use market::Measure;
 use market::Totals;
 use market::Trade;
 ghost use mathlib.Core.Path.{_≡_};
-ghost use Prim.Native.Nat.{_<_};
-ghost use Rattle.whole.specs.Whole.{sum};
-ghost use Rattle.market.specs.Market.{blockVolume, blockTrade, missedOf};
+ghost use Prim.Native.Nat.{_≤_, _<_};
+ghost use Rattle.whole.specs.Whole.{sum, above-zero};
+ghost use Rattle.limits.specs.Limits.{mostRatio};
+ghost use Rattle.market.specs.Market.{blockTrade};
 ghost use Rattle.book.specs.Of.{OfFiles};
 ghost use Rattle.totals.specs.Sums as sums;
 
@@ -65,12 +66,6 @@ fn over_steps(measure: Measure, day: &[u8], clearing: &[u8], counts: Counts) -> 
 
 // ---- the blocks
 
-fn block_volume(taken: bool, quantity: u32) -> u32
-    ensures { λ r. ⌜ r ≡ blockVolume taken quantity ⌝ }
-{
-    if taken { quantity } else { 0 }
-}
-
 fn block_trade(block: Block, period: usize, volume: u32) -> Trade
     ensures { λ r. ⌜ r ≡ blockTrade block period volume ⌝ }
 {
@@ -90,41 +85,41 @@ fn one_period(
     clearing: &[u8],
     counts: Counts,
     row: usize,
-    taken: bool,
+    ratio: u32,
     period: usize,
 ) -> i64
-    requires { ⌜ (OfFiles (now day) (now clearing) counts) × ((row < counts .blocks) × (period < counts .periods)) ⌝ }
-    ensures { λ r. ⌜ r ≡ sums.onePeriod counts (now (day .entry)) (now (clearing .entry)) measure row taken period ⌝ }
+    requires { ⌜ (OfFiles (now day) (now clearing) counts) × ((row < counts .blocks) × ((period < counts .periods) × (ratio ≤ mostRatio))) ⌝ }
+    ensures { λ r. ⌜ r ≡ sums.onePeriod counts (now (day .entry)) (now (clearing .entry)) measure row ratio period ⌝ }
 {
     priced(
         measure,
         block_trade(
             book::block_of(day, counts, row),
             period,
-            block_volume(taken, book::quantity_of(day, counts, row, period)),
+            market::block_volume(ratio, book::quantity_of(day, counts, row, period)),
         ),
         clearing,
         counts,
     )
 }
 
-// A block in all its periods, as if it were taken or not.
-fn whole_block(
+// A block in all its periods, at a ratio.
+fn over_periods(
     measure: Measure,
     day: &[u8],
     clearing: &[u8],
     counts: Counts,
     row: usize,
-    taken: bool,
+    ratio: u32,
 ) -> i64
-    requires { ⌜ (OfFiles (now day) (now clearing) counts) × (row < counts .blocks) ⌝ }
-    ensures { λ r. ⌜ r ≡ sums.wholeBlock counts (now (day .entry)) (now (clearing .entry)) measure row taken ⌝ }
+    requires { ⌜ (OfFiles (now day) (now clearing) counts) × ((row < counts .blocks) × (ratio ≤ mostRatio)) ⌝ }
+    ensures { λ r. ⌜ r ≡ sums.overPeriods counts (now (day .entry)) (now (clearing .entry)) measure row ratio ⌝ }
 {
     let mut all: i64 = 0;
     for period in 0..counts.periods {
         all = market::add(
             all,
-            one_period(measure, day, clearing, counts, row, taken, period),
+            one_period(measure, day, clearing, counts, row, ratio, period),
         );
     }
     all
@@ -134,13 +129,13 @@ fn one_block(measure: Measure, day: &[u8], clearing: &[u8], counts: Counts, row:
     requires { ⌜ (OfFiles (now day) (now clearing) counts) × (row < counts .blocks) ⌝ }
     ensures { λ r. ⌜ r ≡ sums.oneBlock counts (now (day .entry)) (now (clearing .entry)) measure row ⌝ }
 {
-    whole_block(
+    over_periods(
         measure,
         day,
         clearing,
         counts,
         row,
-        book::taken_of(clearing, counts, row),
+        book::ratio_of(clearing, counts, row),
     )
 }
 
@@ -180,23 +175,30 @@ pub fn whole_surplus(day: &[u8], clearing: &[u8], counts: Counts, row: usize) ->
     requires { ⌜ (OfFiles (now day) (now clearing) counts) × (row < counts .blocks) ⌝ }
     ensures { λ r. ⌜ r ≡ sums.wholeSurplus counts (now (day .entry)) (now (clearing .entry)) row ⌝ }
 {
-    whole_block(Measure::Surplus, day, clearing, counts, row, true)
+    over_periods(Measure::Surplus, day, clearing, counts, row, 1000)
 }
 
-fn missed_by(taken: bool, surplus: i64) -> i64
-    ensures { λ r. ⌜ r ≡ missedOf taken surplus ⌝ }
+// What is left unaccepted of a block, in all its periods: the whole less what is accepted.
+fn left_surplus(day: &[u8], clearing: &[u8], counts: Counts, row: usize) -> i64
+    requires { ⌜ (OfFiles (now day) (now clearing) counts) × (row < counts .blocks) ⌝ }
+    ensures { λ r. ⌜ r ≡ sums.leftSurplus counts (now (day .entry)) (now (clearing .entry)) row ⌝ }
 {
-    if !taken & (0 < surplus) { surplus } else { 0 }
+    let whole = whole_surplus(day, clearing, counts, row);
+    let accepted = one_block(Measure::Surplus, day, clearing, counts, row);
+    market::less(whole, accepted)
+}
+
+fn above_zero(surplus: i64) -> i64
+    ensures { λ r. ⌜ r ≡ above-zero surplus ⌝ }
+{
+    if 0 < surplus { surplus } else { 0 }
 }
 
 fn missed(day: &[u8], clearing: &[u8], counts: Counts, row: usize) -> i64
     requires { ⌜ (OfFiles (now day) (now clearing) counts) × (row < counts .blocks) ⌝ }
     ensures { λ r. ⌜ r ≡ sums.missed counts (now (day .entry)) (now (clearing .entry)) row ⌝ }
 {
-    missed_by(
-        book::taken_of(clearing, counts, row),
-        whole_surplus(day, clearing, counts, row),
-    )
+    above_zero(left_surplus(day, clearing, counts, row))
 }
 
 fn shortfall(day: &[u8], clearing: &[u8], counts: Counts) -> i64

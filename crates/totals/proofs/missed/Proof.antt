@@ -5,21 +5,16 @@ use borrow.Author.Needs.{needs}
 use Rattle.totals.proofs.missed.Statement.{statement}
 use Rattle.totals.proofs.missed.Tie as tie
 
-taken-of-requires : tie.Need-taken-of-requires
-taken-of-requires c κs = search needs
+left-surplus-requires : tie.Need-left-surplus-requires
+left-surplus-requires c κs = search needs
 
-whole-surplus-requires : tie.Need-whole-surplus-requires
-whole-surplus-requires c κs = search needs
-
-missed-by-requires : tie.Need-missed-by-requires
-missed-by-requires c κs = search needs
+above-zero-requires : tie.Need-above-zero-requires
+above-zero-requires c κs = search needs
 
 returns : tie.Need-returns
 returns c =
-    let whole = c .before .whole-surplus in
-    same (c .missed-by .result) (c .missed-by .ok) ∙ c .missed-by .ensures
-    ∙ rw (c .before .before .taken-of .ensures, same (whole .result) (whole .ok), whole .ensures)
+    let left = c .before .left-surplus in
+    same (c .above-zero .result) (c .above-zero .ok) ∙ c .above-zero .ensures ∙ rw (same (left .result) (left .ok), left .ensures)
 
 pub missed-spec : {M : Type 1} → statement M
-missed-spec =
-    tie.close (tie.spec taken-of-requires whole-surplus-requires missed-by-requires returns)
+missed-spec = tie.close (tie.spec left-surplus-requires above-zero-requires returns)

@@ -1,9 +1,9 @@
 -- `totals::one_period` meets its contract. Assumes nothing.
-use Prim.Native.Nat.{ℕ, _<_}
+use Prim.Native.Nat.{ℕ, _<_, _≤_}
 use mathlib.Core.Path.{_≡_, _∙_}
-use mathlib.Core.Bool.{Bool}
 use mathlib.Core.List.{List}
 use Rattle.whole.specs.Size.{same}
+use Rattle.limits.specs.Limits.{mostRatio, mostVolume}
 use Rattle.market.specs.MeasureLaws.{block-small}
 use Rattle.day.specs.declared.Counts.{Counts}
 use Rattle.book.specs.Of.{OfFiles}
@@ -15,12 +15,12 @@ use Rattle.totals.proofs.one_period.Statement.{statement}
 use Rattle.totals.proofs.one_period.Tie as tie
 
 block-priceable : {day clearing : List ℕ} {c : Counts} → OfFiles day clearing c → {k period : ℕ} → k < c .blocks → period < c .periods →
-    (taken : Bool) → Priceable clearing c (blockTrade c day clearing k period taken)
-block-priceable o {k} {period} l h taken = record {
+    {ratio : ℕ} → ratio ≤ mostRatio → Priceable clearing c (blockTrade c day clearing k period ratio)
+block-priceable o {k} {period} l h {ratio} r = record {
   of-clearing = o .of-clearing;
   zone-is = placed (o .of-day) .block-zone k l;
   period-is = h;
-  small = block-small _ _ _ (placed (o .of-day)) (ranged o) k period l h taken;
+  small = block-small _ _ _ (placed (o .of-day)) (ranged o) k period ratio l h r;
 }
 
 block-of-requires : tie.Need-block-of-requires
@@ -30,14 +30,16 @@ quantity-of-requires : tie.Need-quantity-of-requires
 quantity-of-requires c κs = search needs
 
 block-volume-requires : tie.Need-block-volume-requires
-block-volume-requires c κs = search needs
+block-volume-requires c κs =
+    let s = c .before .before .before .before in
+    (s .pre .1 .1 .1, rw (c .quantity-of .ensures) (placed (s .pre .0 .of-day) .block-quantity _ _ (s .pre .1 .0) (s .pre .1 .1 .0)))
 
 block-trade-requires : tie.Need-block-trade-requires
 block-trade-requires c κs = search needs
 
 -- the trade that is priced
 trade : (c : tie.After-block-trade) → let a = c .before .before .before .before .before .before .args in
-    c .block-trade .result ≡ blockTrade (a .counts) (now (a .day)) (now (a .clearing)) (a .row) (a .period) (a .taken)
+    c .block-trade .result ≡ blockTrade (a .counts) (now (a .day)) (now (a .clearing)) (a .row) (a .period) (a .ratio)
 trade c =
     c .block-trade .ensures
     ∙ rw (c .before .block-volume .ensures, c .before .before .quantity-of .ensures, c .before .before .before .block-of .ensures)
@@ -45,7 +47,7 @@ trade c =
 priced-requires : tie.Need-priced-requires
 priced-requires c κs =
     let s = c .before .before .before .before .before .before in
-    rw (trade c) (block-priceable (s .pre .0) (s .pre .1 .0) (s .pre .1 .1) (s .args .taken))
+    rw (trade c) (block-priceable (s .pre .0) (s .pre .1 .0) (s .pre .1 .1 .0) (s .pre .1 .1 .1))
 
 returns : tie.Need-returns
 returns c = same (c .priced .result) (c .priced .ok) ∙ c .priced .ensures ∙ rw (trade (c .before))

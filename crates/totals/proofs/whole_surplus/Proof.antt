@@ -6,11 +6,11 @@ use borrow.Author.Needs.{needs}
 use Rattle.totals.proofs.whole_surplus.Statement.{statement}
 use Rattle.totals.proofs.whole_surplus.Tie as tie
 
-whole-block-requires : tie.Need-whole-block-requires
-whole-block-requires c κs = search needs
+over-periods-requires : tie.Need-over-periods-requires
+over-periods-requires c κs = search needs
 
 returns : tie.Need-returns
-returns c = same (c .whole-block .result) (c .whole-block .ok) ∙ c .whole-block .ensures ∙ whole-is _ _ _
+returns c = same (c .over-periods .result) (c .over-periods .ok) ∙ c .over-periods .ensures ∙ whole-is _ _ _
 
 pub whole-surplus-spec : {M : Type 1} → statement M
-whole-surplus-spec = tie.close (tie.spec whole-block-requires returns)
+whole-surplus-spec = tie.close (tie.spec over-periods-requires returns)
