@@ -1,5 +1,5 @@
-// The rules 11 to 17 over two files that read without fault: the test at one place, the search for the first broken place, the rules in
-// number order.
+// The rules 11 to 17, 20 and 21 over two files that read without fault: the test at one place, the search for the first broken place, the
+// rules in order.
 use day::Counts;
 use market::Rule;
 use stages::Fault;
@@ -10,7 +10,7 @@ ghost use mathlib.Core.List.{[], _∷_};
 ghost use Prim.Native.Nat.{_<_};
 ghost use Rattle.stages.specs.Stage.{spot, firstFault, orFault};
 ghost use Rattle.market.specs.Rules.{number};
-ghost use Rattle.market.specs.declared.Rule.the-variants.{Price, Capacity, Quantity, Balance, Step, Line, Block};
+ghost use Rattle.market.specs.declared.Rule.the-variants.{Price, Capacity, Quantity, Ratio, Whole, Balance, Step, Line, Block};
 ghost use Rattle.book.specs.Of.{OfFiles};
 ghost use Rattle.rules.specs.Judge.{rowsOf, columnsOf, test, stage, stages};
 
@@ -44,6 +44,24 @@ fn quantity_holds(day: &[u8], clearing: &[u8], counts: Counts, row: usize) -> bo
 {
     let step = book::step_of(day, counts, row);
     book::volume_of(clearing, counts, row) <= step.quantity
+}
+
+fn ratio_holds(day: &[u8], clearing: &[u8], counts: Counts, row: usize) -> bool
+    requires { ⌜ (OfFiles (now day) (now clearing) counts) × (row < counts .blocks) ⌝ }
+    ensures { λ r. ⌜ r ≡ test counts (now (day .entry)) (now (clearing .entry)) Ratio row 0 ⌝ }
+{
+    let block = book::block_of(day, counts, row);
+    market::ratio_ok(block.least, book::ratio_of(clearing, counts, row))
+}
+
+fn whole_holds(day: &[u8], clearing: &[u8], counts: Counts, row: usize, period: usize) -> bool
+    requires { ⌜ (OfFiles (now day) (now clearing) counts) × ((row < counts .blocks) × (period < counts .periods)) ⌝ }
+    ensures { λ r. ⌜ r ≡ test counts (now (day .entry)) (now (clearing .entry)) Whole row period ⌝ }
+{
+    market::whole_ok(
+        book::ratio_of(clearing, counts, row),
+        book::quantity_of(day, counts, row, period),
+    )
 }
 
 fn balance_holds(day: &[u8], clearing: &[u8], counts: Counts, zone: usize, period: usize) -> bool
@@ -90,7 +108,7 @@ fn block_holds(day: &[u8], clearing: &[u8], counts: Counts, row: usize) -> bool
     ensures { λ r. ⌜ r ≡ test counts (now (day .entry)) (now (clearing .entry)) Block row 0 ⌝ }
 {
     market::block_ok(
-        book::taken_of(clearing, counts, row),
+        book::ratio_of(clearing, counts, row),
         totals::whole_surplus(day, clearing, counts, row),
     )
 }
@@ -110,6 +128,8 @@ fn holds_at(
         Rule::Price => price_holds(day, clearing, counts, row, column),
         Rule::Capacity => capacity_holds(day, clearing, counts, row, column),
         Rule::Quantity => quantity_holds(day, clearing, counts, row),
+        Rule::Ratio => ratio_holds(day, clearing, counts, row),
+        Rule::Whole => whole_holds(day, clearing, counts, row, column),
         Rule::Balance => balance_holds(day, clearing, counts, row, column),
         Rule::Step => step_holds(day, clearing, counts, row),
         Rule::Line => line_holds(day, clearing, counts, row, column),
@@ -126,6 +146,8 @@ fn rows_of(rule: Rule, counts: Counts) -> usize
         Rule::Price => counts.zones,
         Rule::Capacity => counts.lines,
         Rule::Quantity => counts.steps,
+        Rule::Ratio => counts.blocks,
+        Rule::Whole => counts.blocks,
         Rule::Balance => counts.zones,
         Rule::Step => counts.steps,
         Rule::Line => counts.lines,
@@ -140,6 +162,8 @@ fn columns_of(rule: Rule, counts: Counts) -> usize
         Rule::Price => counts.periods,
         Rule::Capacity => counts.periods,
         Rule::Quantity => 1,
+        Rule::Ratio => 1,
+        Rule::Whole => counts.periods,
         Rule::Balance => counts.periods,
         Rule::Step => 1,
         Rule::Line => counts.periods,
@@ -154,6 +178,8 @@ fn number_of(rule: Rule) -> u8
         Rule::Price => 11,
         Rule::Capacity => 12,
         Rule::Quantity => 13,
+        Rule::Ratio => 20,
+        Rule::Whole => 21,
         Rule::Balance => 14,
         Rule::Step => 15,
         Rule::Line => 16,
@@ -210,7 +236,7 @@ fn judged(rule: Rule, day: &[u8], clearing: &[u8], counts: Counts, earlier: Faul
     }
 }
 
-// The rules in number order.
+// The rules in order: 20 and 21 come after 13.
 pub fn first_fault(day: &[u8], clearing: &[u8], counts: Counts) -> Fault
     requires { ⌜ OfFiles (now day) (now clearing) counts ⌝ }
     ensures { λ r. ⌜ r ≡ firstFault (stages counts (now (day .entry)) (now (clearing .entry))) ⌝ }
@@ -218,6 +244,8 @@ pub fn first_fault(day: &[u8], clearing: &[u8], counts: Counts) -> Fault
     let fault = fault_of(Rule::Price, day, clearing, counts);
     let fault = judged(Rule::Capacity, day, clearing, counts, fault);
     let fault = judged(Rule::Quantity, day, clearing, counts, fault);
+    let fault = judged(Rule::Ratio, day, clearing, counts, fault);
+    let fault = judged(Rule::Whole, day, clearing, counts, fault);
     let fault = judged(Rule::Balance, day, clearing, counts, fault);
     let fault = judged(Rule::Step, day, clearing, counts, fault);
     let fault = judged(Rule::Line, day, clearing, counts, fault);

@@ -5,8 +5,8 @@ use borrow.Author.Needs.{needs}
 use Rattle.rules.proofs.block_holds.Statement.{statement}
 use Rattle.rules.proofs.block_holds.Tie as tie
 
-taken-of-requires : tie.Need-taken-of-requires
-taken-of-requires c κs = search needs
+ratio-of-requires : tie.Need-ratio-of-requires
+ratio-of-requires c κs = search needs
 
 whole-surplus-requires : tie.Need-whole-surplus-requires
 whole-surplus-requires c κs = search needs
@@ -22,9 +22,9 @@ returns c =
       c .block-ok .ensures,
       same (surplus .whole-surplus .result) (surplus .whole-surplus .ok),
       surplus .whole-surplus .ensures,
-      surplus .before .taken-of .ensures,
+      surplus .before .ratio-of .ensures,
     )
 
 pub block-holds-spec : {M : Type 1} → statement M
 block-holds-spec =
-    tie.close (tie.spec taken-of-requires whole-surplus-requires block-ok-requires returns)
+    tie.close (tie.spec ratio-of-requires whole-surplus-requires block-ok-requires returns)

@@ -36,26 +36,38 @@ quantity-holds-requires c κs = let s = c .before .before .before .before in (s 
 enum-told-4 : tie.Need-enum-told-4
 enum-told-4 c = search needs
 
-balance-holds-requires : tie.Need-balance-holds-requires
-balance-holds-requires c κs = let s = c .before .before .before .before in (s .pre .0, place s (c .enum-told4 .given .1) .1)
+ratio-holds-requires : tie.Need-ratio-holds-requires
+ratio-holds-requires c κs = let s = c .before .before .before .before in (s .pre .0, place s (c .enum-told4 .given .1) .0)
 
 enum-told-5 : tie.Need-enum-told-5
 enum-told-5 c = search needs
 
-step-holds-requires : tie.Need-step-holds-requires
-step-holds-requires c κs = let s = c .before .before .before .before in (s .pre .0, place s (c .enum-told5 .given .1) .0)
+whole-holds-requires : tie.Need-whole-holds-requires
+whole-holds-requires c κs = let s = c .before .before .before .before in (s .pre .0, place s (c .enum-told5 .given .1))
 
 enum-told-6 : tie.Need-enum-told-6
 enum-told-6 c = search needs
 
-line-holds-requires : tie.Need-line-holds-requires
-line-holds-requires c κs = let s = c .before .before .before .before in (s .pre .0, place s (c .enum-told6 .given .1))
+balance-holds-requires : tie.Need-balance-holds-requires
+balance-holds-requires c κs = let s = c .before .before .before .before in (s .pre .0, place s (c .enum-told6 .given .1) .1)
 
 enum-told-7 : tie.Need-enum-told-7
 enum-told-7 c = search needs
 
+step-holds-requires : tie.Need-step-holds-requires
+step-holds-requires c κs = let s = c .before .before .before .before in (s .pre .0, place s (c .enum-told7 .given .1) .0)
+
+enum-told-8 : tie.Need-enum-told-8
+enum-told-8 c = search needs
+
+line-holds-requires : tie.Need-line-holds-requires
+line-holds-requires c κs = let s = c .before .before .before .before in (s .pre .0, place s (c .enum-told8 .given .1))
+
+enum-told-9 : tie.Need-enum-told-9
+enum-told-9 c = search needs
+
 block-holds-requires : tie.Need-block-holds-requires
-block-holds-requires c κs = let s = c .before .before .before .before in (s .pre .0, place s (c .enum-told7 .given .1) .0)
+block-holds-requires c κs = let s = c .before .before .before .before in (s .pre .0, place s (c .enum-told9 .given .1) .0)
 
 returns : tie.Need-returns
 unfolding test
@@ -71,19 +83,27 @@ returns-3 c = rw (c .before .enum-told3 .given .1) (c .quantity-holds .ensures)
 
 returns-4 : tie.Need-returns-4
 unfolding test
-returns-4 c = rw (c .before .enum-told4 .given .1) (c .balance-holds .ensures)
+returns-4 c = rw (c .before .enum-told4 .given .1) (c .ratio-holds .ensures)
 
 returns-5 : tie.Need-returns-5
 unfolding test
-returns-5 c = rw (c .before .enum-told5 .given .1) (c .step-holds .ensures)
+returns-5 c = rw (c .before .enum-told5 .given .1) (c .whole-holds .ensures)
 
 returns-6 : tie.Need-returns-6
 unfolding test
-returns-6 c = rw (c .before .enum-told6 .given .1) (c .line-holds .ensures)
+returns-6 c = rw (c .before .enum-told6 .given .1) (c .balance-holds .ensures)
 
 returns-7 : tie.Need-returns-7
 unfolding test
-returns-7 c = rw (c .before .enum-told7 .given .1) (c .block-holds .ensures)
+returns-7 c = rw (c .before .enum-told7 .given .1) (c .step-holds .ensures)
+
+returns-8 : tie.Need-returns-8
+unfolding test
+returns-8 c = rw (c .before .enum-told8 .given .1) (c .line-holds .ensures)
+
+returns-9 : tie.Need-returns-9
+unfolding test
+returns-9 c = rw (c .before .enum-told9 .given .1) (c .block-holds .ensures)
 
 pub holds-at-spec : {M : Type 1} → statement M
 holds-at-spec =
@@ -96,12 +116,16 @@ holds-at-spec =
     enum-told-3
     quantity-holds-requires
     enum-told-4
-    balance-holds-requires
+    ratio-holds-requires
     enum-told-5
-    step-holds-requires
+    whole-holds-requires
     enum-told-6
-    line-holds-requires
+    balance-holds-requires
     enum-told-7
+    step-holds-requires
+    enum-told-8
+    line-holds-requires
+    enum-told-9
     block-holds-requires
     returns
     returns-2
@@ -109,4 +133,6 @@ holds-at-spec =
     returns-4
     returns-5
     returns-6
-    returns-7)
+    returns-7
+    returns-8
+    returns-9)
