@@ -25,7 +25,7 @@ use Rattle.day.specs.Good.{GoodDay, in-limits, prices-most}
 use Rattle.day.specs.Fields.{DayField}
 use Rattle.clearing.specs.Fields.{ClearingField}
 use Rattle.book.specs.Of.{OfFiles, of-files}
-use Rattle.book.specs.Ranges.{placed}
+use Rattle.book.specs.Ranges.{placed, ranged}
 use Rattle.verdict.specs.Verdict.{dayOf, pricesOf, choiceOf, totalsOf, statementOf, statementLengthOf}
 use Rattle.verdict.specs.Verdict.{stages, leaves, Checked, numberOf, placeOf, givenTotals, zeros}
 use Rattle.verdict.specs.declared.Outcome.{Outcome}
@@ -49,8 +49,8 @@ module _ {day clearing before : List ℕ} {outcome : Outcome} {after : List ℕ}
   pub refusal-gives-zeros : {k : ℕ} {p : Place} → outcome ≡ Refused k p → givenTotals outcome ≡ zeros
   refusal-gives-zeros e = ap givenTotals e
 
-  -- its number is from 1 to 8, for the files, or from 11 to 18, for the rules and the room
-  pub refusal-number : (k : ℕ) (p : Place) → outcome ≡ Refused k p → ((1 ≤ k) × (k ≤ 8)) ⊎ ((11 ≤ k) × (k ≤ 18))
+  -- its number is from 1 to 8, for the files, or from 11 to 18, or 20 or 21, for the rules and the room
+  pub refusal-number : (k : ℕ) (p : Place) → outcome ≡ Refused k p → ((1 ≤ k) × (k ≤ 8)) ⊎ (((11 ≤ k) × (k ≤ 18)) ⊎ ((20 ≤ k) × (k ≤ 21)))
   refusal-number k p e = refusals.refusal-number day clearing (length before) k p (sym (c .said) ∙ e)
 
   -- its place names a field for the numbers 3 and 7 alone
@@ -74,7 +74,8 @@ module _ {day clearing before : List ℕ} {outcome : Outcome} {after : List ℕ}
   pub refused-exactly : (k : ℕ) (p : Place) → (outcome ≡ Refused k p) ↔ Means (stages day clearing (length before)) (Broken k p)
   refused-exactly k p = said-of (c .said) (refused-is-broken day clearing (length before) k p)
 
-  -- the same as sentences. By a rule: the files read, the rules with a lower number hold, this one is broken at this place and nowhere before
+  -- the same as sentences. By a rule: the files read, the rules whose turn comes before hold, this one is broken at this place and nowhere
+  -- before
   pub refused-by-rule : (rule : Rule) (row col : ℕ) →
       (outcome ≡ Refused (number rule) (place row col)) ↔ FirstBreach day clearing rule row col
   refused-by-rule rule row col = said-of (c .said) (refusals.refused-by-rule day clearing (length before) rule row col)
@@ -166,7 +167,7 @@ module _ {day clearing before after : List ℕ} {t : Totals} (c : Checked day cl
   -- the accepted choice is itself allowed, and t's order value is its own
   pub itself-allowed : Allowed (dayOf day) (choiceOf day clearing) × (orderValue (dayOf day) (choiceOf day clearing) ≡ t .value)
   unfolding totals
-  itself-allowed = (lawful-allowed _ _ _ lawful, of-t (λ u. orderValue (dayOf day) (choiceOf day clearing) ≡ u .value) refl)
+  itself-allowed = (lawful-allowed _ _ _ (ranged both-read) lawful, of-t (λ u. orderValue (dayOf day) (choiceOf day clearing) ≡ u .value) refl)
 
 -- ==== the longest statement, and one outcome for each input
 

@@ -116,7 +116,7 @@ module _ {day clearing : List ℕ} (o : OfFiles day clearing (counts day)) where
   accepted-fits : (m : Measure) {x : ℤ} → accepted d c (priced m p) ≡ x → SFits w64 x
   accepted-fits m is =
       let steps = sum (d .steps) (stepMeasured d p c m) in
-      let blocks = sum (d .blocks) (λ k. blockMeasured d p m k (c .taken k)) in
+      let blocks = sum (d .blocks) (λ k. blockMeasured d p m k (c .ratio k)) in
       let s = steps-size d p c (placed (o .of-day)) (ranged o) m (d .steps) (le-refl (d .steps)) in
       let b = blocks-size d p c (placed (o .of-day)) (ranged o) m (d .blocks) (le-refl (d .blocks)) in
       subst (SFits w64) (sym (accepted-is d p c m) ∙ is) (fits-i64 (steps +ℤ blocks) (omega (arith, abs-+ steps blocks, s, b)))

@@ -11,10 +11,10 @@ use Rattle.stages.specs.declared.Place.{Place}
 use Rattle.stages.specs.declared.Fault.{Fault}
 use Rattle.stages.specs.declared.Fault.the-variants.{Broken, Clean}
 use Rattle.market.specs.Market.{Day, Choice, Prices}
-use Rattle.market.specs.Rules.{number, ruleStage, ruleStages}
+use Rattle.market.specs.Rules.{number, order, ruleStage, ruleStages}
 use Rattle.market.specs.RuleLaws.{test-is, breach, rule-holds, lawful-is}
 use Rattle.market.specs.declared.Rule.{Rule}
-use Rattle.market.specs.declared.Rule.the-variants.{Price, Capacity, Quantity, Balance, Step, Line, Block}
+use Rattle.market.specs.declared.Rule.the-variants.{Price, Capacity, Quantity, Ratio, Whole, Balance, Step, Line, Block}
 use Rattle.day.specs.declared.Counts.{Counts}
 use Rattle.day.specs.Day.{counts, dayStages}
 use Rattle.day.specs.Good.{GoodDay, day-clean}
@@ -24,9 +24,9 @@ use Rattle.clearing.specs.Good.{GoodClearing, files-clean}
 use Rattle.clearing.specs.Fields.{ClearingField, clearing-field}
 use Rattle.verdict.specs.Verdict.{dayOf, pricesOf, choiceOf, totalsOf, statementLengthOf, roomStage, stages, verdict, numberOf}
 use Rattle.verdict.specs.declared.Outcome.the-variants.{Accepted, Refused}
-use Rattle.demands.specs.Sentences.{FirstBreach, TooShort}
+use Rattle.demands.specs.Sentences.{turn, FirstBreach, TooShort}
 use Rattle.demands.specs.Laws.{refused-is-broken}
-use Rattle.stages.specs.Lists.{Each, Numbers, In, Ascending, broken-++, each-in, each-++, each-so, numbered, placed, in-first, in-second, ascending-broken}
+use Rattle.stages.specs.Lists.{Each, Numbers, In, turnIn, InTurn, broken-++, each-in, each-++, each-so, numbered, placed, in-first, in-second, in-turn-broken}
 
 -- ==== the numbers of the files, and their places
 
@@ -93,54 +93,78 @@ clearing-places c clearing = in-clearing 1 (in-clearing 2 (in-clearing 3 (in-cle
 
 -- ==== the rules
 
+-- the numbers of the rules, and with the room's, 18, all that come after the files
+abbrev RuleNumber : ℕ → Type 0
+RuleNumber k = FromTo 11 17 k ⊎ FromTo 20 21 k
+
+abbrev AfterNumber : ℕ → Type 0
+AfterNumber k = FromTo 11 18 k ⊎ FromTo 20 21 k
+
+rule-after : {k : ℕ} → RuleNumber k → AfterNumber k
+rule-after (inl h) = inl (h .0, omega (arith, h .1))
+rule-after (inr h) = inr h
+
+after-beyond : {k : ℕ} → AfterNumber k → 8 < k
+after-beyond (inl h) = omega (arith, h .0)
+after-beyond (inr h) = omega (arith, h .0)
+
+not-the-room : {k : ℕ} → RuleNumber k → ¬ (18 ≡ k)
+not-the-room (inl h) e = omega (arith, h .1, e)
+not-the-room (inr h) e = omega (arith, h .0, e)
+
 module _ (d : Day) (p : Prices) (c : Choice) where
   abbrev stageOf : Rule → Stage
   stageOf = ruleStage d p c
 
-  rule-number : (rule : Rule) → FromTo 11 17 (number rule)
-  rule-number Price = (omega arith, omega arith)
-  rule-number Capacity = (omega arith, omega arith)
-  rule-number Quantity = (omega arith, omega arith)
-  rule-number Balance = (omega arith, omega arith)
-  rule-number Step = (omega arith, omega arith)
-  rule-number Line = (omega arith, omega arith)
-  rule-number Block = (omega arith, omega arith)
+  rule-number : (rule : Rule) → RuleNumber (number rule)
+  rule-number Price = inl (omega arith, omega arith)
+  rule-number Capacity = inl (omega arith, omega arith)
+  rule-number Quantity = inl (omega arith, omega arith)
+  rule-number Ratio = inr (omega arith, omega arith)
+  rule-number Whole = inr (omega arith, omega arith)
+  rule-number Balance = inl (omega arith, omega arith)
+  rule-number Step = inl (omega arith, omega arith)
+  rule-number Line = inl (omega arith, omega arith)
+  rule-number Block = inl (omega arith, omega arith)
 
   -- every rule is in the list, and there are no other stages in it
   listed : (rule : Rule) → In (stageOf rule) (ruleStages d p c)
   listed Price = inl refl
   listed Capacity = inr (inl refl)
   listed Quantity = inr (inr (inl refl))
-  listed Balance = inr (inr (inr (inl refl)))
-  listed Step = inr (inr (inr (inr (inl refl))))
-  listed Line = inr (inr (inr (inr (inr (inl refl)))))
-  listed Block = inr (inr (inr (inr (inr (inr (inl refl))))))
+  listed Ratio = inr (inr (inr (inl refl)))
+  listed Whole = inr (inr (inr (inr (inl refl))))
+  listed Balance = inr (inr (inr (inr (inr (inl refl)))))
+  listed Step = inr (inr (inr (inr (inr (inr (inl refl))))))
+  listed Line = inr (inr (inr (inr (inr (inr (inr (inl refl)))))))
+  listed Block = inr (inr (inr (inr (inr (inr (inr (inr (inl refl))))))))
 
   each-rule : (P : Stage → Type 0) → ((rule : Rule) → P (stageOf rule)) → Each P (ruleStages d p c)
-  each-rule P h = (h Price, (h Capacity, (h Quantity, (h Balance, (h Step, (h Line, (h Block, tt)))))))
+  each-rule P h = (h Price, (h Capacity, (h Quantity, (h Ratio, (h Whole, (h Balance, (h Step, (h Line, (h Block, tt)))))))))
 
-  rule-numbers : Numbers (FromTo 11 17) (ruleStages d p c)
-  rule-numbers = each-rule (λ (s : Stage). FromTo 11 17 (s .number)) rule-number
+  rule-numbers : Numbers RuleNumber (ruleStages d p c)
+  rule-numbers = each-rule (λ (s : Stage). RuleNumber (s .number)) rule-number
 
-  in-order : Ascending 11 (ruleStages d p c)
-  in-order = (omega arith, (omega arith, (omega arith, (omega arith, (omega arith, (omega arith, (omega arith, tt)))))))
+  in-order : InTurn (turnIn order) 0 (ruleStages d p c)
+  in-order =
+      (omega arith, (omega arith, (omega arith, (omega arith, (omega arith, (omega arith, (omega arith, (omega arith, (omega arith, tt)))))))))
 
   module _ (rule : Rule) (row col : ℕ) where
+    -- a stage holds whose turn comes before the rule's
+    abbrev Earlier : Stage → Type 0
+    Earlier t = turnIn order (t .number) < turn rule → Holds t
+
     -- a rule names a cell by its row and its column
     at-its-place : BrokenAt (stageOf rule) (number rule) (place row col) → Breaks (stageOf rule) row col
     at-its-place = broken-here (stageOf rule) (λ q. q .first) (λ q. q .second) (λ z i. refl) (λ z i. refl)
 
-    -- a fault with a rule's number: the rule is broken there first, and those with a lower number hold
+    -- a fault with a rule's number: the rule is broken there first, and those whose turn comes before hold
     rule-broken : Means (ruleStages d p c) (Broken (number rule) (place row col))
-        ↔ (Breaks (stageOf rule) row col × ((r : Rule) → number r < number rule → Holds (stageOf r)))
+        ↔ (Breaks (stageOf rule) row col × ((r : Rule) → turn r < turn rule → Holds (stageOf r)))
     rule-broken =
-        let a = ascending-broken 11 (ruleStages d p c) in-order (stageOf rule) (listed rule) (place row col) in (
-          λ m. let b = a .0 m in
-              (at-its-place (b .0), λ r. each-in (λ (t : Stage). t .number < number rule → Holds t) (ruleStages d p c) (b .1) (listed r)),
-          λ h. a .1 (
-            record { row = row; col = col; number = refl; named = refl; breaks = h .0 },
-            each-rule (λ (t : Stage). t .number < number rule → Holds t) (h .1),
-          ),
+        let a = in-turn-broken (turnIn order) 0 (ruleStages d p c) in-order (stageOf rule) (listed rule) (place row col) in (
+          λ m. let b = a .0 m in (at-its-place (b .0), λ r. each-in Earlier (ruleStages d p c) (b .1) (listed r)),
+          λ h. a .1 (record { row = row; col = col; number = refl; named = refl; breaks = h .0 }, each-rule Earlier (h .1)),
         )
 
 -- ==== the verdict
@@ -177,21 +201,23 @@ module _ (day clearing : List ℕ) (room : ℕ) where
   })
 
   -- what comes after the files has numbers from 11 on
-  after-numbers : Numbers (FromTo 11 18) afterFiles
+  after-numbers : Numbers AfterNumber afterFiles
   after-numbers =
-      each-++ (λ (s : Stage). FromTo 11 18 (s .number)) ruled (roomStage day room ∷ [])
-      (wider 11 17 11 18 ruled (omega arith) (omega arith) (rule-numbers (dayOf day) (pricesOf day clearing) (choiceOf day clearing)))
-      ((omega arith, omega arith), tt)
+      each-++ (λ (s : Stage). AfterNumber (s .number)) ruled (roomStage day room ∷ [])
+      (each-so (λ (s : Stage). RuleNumber (s .number)) (λ (s : Stage). AfterNumber (s .number)) ruled (λ s h. rule-after {k = s .number} h)
+      (rule-numbers (dayOf day) (pricesOf day clearing) (choiceOf day clearing)))
+      (inl (omega arith, omega arith), tt)
 
-  broken-number : (k : ℕ) (p : Place) → Means (stages day clearing room) (Broken k p) → FromTo 1 8 k ⊎ FromTo 11 18 k
+  broken-number : (k : ℕ) (p : Place) → Means (stages day clearing room) (Broken k p) → FromTo 1 8 k ⊎ AfterNumber k
   broken-number k p m =
       ⊎-elim
       (λ b. inl (numbered (FromTo 1 8) (fileStages day clearing) (file-numbers day clearing) k p b))
-      (λ b. inr (numbered (FromTo 11 18) afterFiles after-numbers k p (b .1)))
+      (λ b. inr (numbered AfterNumber afterFiles after-numbers k p (b .1)))
       (broken-++ (fileStages day clearing) afterFiles k p .0 m)
 
-  -- A refusal has a number from 1 to 8, for the files, or from 11 to 18, for the rules and the room.
-  pub refusal-number : (k : ℕ) (p : Place) → verdict day clearing room ≡ Refused k p → ((1 ≤ k) × (k ≤ 8)) ⊎ ((11 ≤ k) × (k ≤ 18))
+  -- A refusal has a number from 1 to 8, for the files, or from 11 to 18, or 20 or 21, for the rules and the room.
+  pub refusal-number : (k : ℕ) (p : Place) → verdict day clearing room ≡ Refused k p →
+      ((1 ≤ k) × (k ≤ 8)) ⊎ (((11 ≤ k) × (k ≤ 18)) ⊎ ((20 ≤ k) × (k ≤ 21)))
   refusal-number k p e = broken-number k p (refused-is-broken day clearing room k p .0 e)
 
   -- The number 0 says that the files are accepted, with their totals.
@@ -203,7 +229,7 @@ module _ (day clearing : List ℕ) (room : ℕ) where
       by Clean e z = refl
       by (Broken k p) e z =
           let n = broken-number k p (means (stages day clearing room) (Broken k p) .0 e) in
-          absurd (⊎-elim (λ l. omega (arith, l .0, z)) (λ l. omega (arith, l .0, z)) n)
+          absurd (⊎-elim (λ l. omega (arith, l .0, z)) (λ a. let l = after-beyond a in omega (arith, l, z)) n)
 
   -- a number beyond 8: both files read without fault, and the fault comes after them
   past-files : (k : ℕ) (p : Place) → 8 < k →
@@ -217,7 +243,7 @@ module _ (day clearing : List ℕ) (room : ℕ) where
   in-files : (k : ℕ) (p : Place) → k ≤ 8 → (verdict day clearing room ≡ Refused k p) ↔ Means (fileStages day clearing) (Broken k p)
   in-files k p l =
       Iff·trans (refused-is-broken day clearing room k p)
-      (in-first (fileStages day clearing) afterFiles k p (FromTo 11 18) (λ h. omega (arith, l, h .0)) after-numbers)
+      (in-first (fileStages day clearing) afterFiles k p AfterNumber (λ a. let b = after-beyond a in omega (arith, l, b)) after-numbers)
 
   -- A refusal with the number 3: the place names the first field of the day file that fails its test.
   pub refused-by-day-field : (section row field : ℕ) →
@@ -258,14 +284,14 @@ module _ (day clearing : List ℕ) (room : ℕ) where
       let p = pricesOf day clearing in
       let c = choiceOf day clearing in
       let n = rule-number d p c rule in
-      let past = past-files (number rule) (place row col) (omega (arith, n .0)) in
+      let past = past-files (number rule) (place row col) (after-beyond (rule-after n)) in
       let split = broken-++ ruled (roomStage day room ∷ []) (number rule) (place row col) in
       let broken = rule-broken d p c rule row col in (
         λ e.
             let m = past .0 e in
             let h = broken .0 (⊎-elim
             (λ b. b)
-            (λ b. absurd (omega (arith, n .1, room-number (number rule) (place row col) (b .1))))
+            (λ b. absurd (not-the-room n (room-number (number rule) (place row col) (b .1))))
             (split .0 (m .1))) in
             record {
               day-reads = m .0 .0;
@@ -298,7 +324,7 @@ module _ (day clearing : List ℕ) (room : ℕ) where
       let m = past-files 18 p (omega arith) .0 e in
       let numbers = rule-numbers (dayOf day) (pricesOf day clearing) (choiceOf day clearing) in
       let h : Means ruled Clean × Means (roomStage day room ∷ []) (Broken 18 p) = ⊎-elim
-      (λ b. absurd (omega (arith, numbered (FromTo 11 17) ruled numbers 18 p b .1)))
+      (λ b. absurd (not-the-room (numbered RuleNumber ruled numbers 18 p b) refl))
       (λ b. b)
       (broken-++ ruled (roomStage day room ∷ []) 18 p .0 (m .1)) in
       record {

@@ -3,9 +3,10 @@ use Prim.Native.Nat.{ℕ, _+_, _*_, _<_, _≤_}
 use mathlib.Core.Path.{_≡_}
 use mathlib.Core.List.{List}
 use lib.ListN.{getD, length}
+use Rattle.stages.specs.Lists.{turnIn}
 use Rattle.wire.specs.Bytes.{u16At, i32At, i64At}
 use Rattle.market.specs.Market.{netPosition, orderValue, buyerSurplus, sellerSurplus, rent, tradedVolume, shortfall}
-use Rattle.market.specs.Rules.{Lawful, Obeys, number, rows, columns}
+use Rattle.market.specs.Rules.{Lawful, Obeys, number, order, rows, columns}
 use Rattle.market.specs.declared.Rule.{Rule}
 use Rattle.market.specs.declared.Totals.{Totals}
 use Rattle.day.specs.Day.{counts}
@@ -24,12 +25,16 @@ pub record Passes (day clearing : List ℕ) (room : ℕ) : Type 0 where
 
 -- ---- what is refused
 
+-- a rule's turn: how many rules are looked for before it
+abbrev pub turn : Rule → ℕ
+turn rule = turnIn order (number rule)
+
 -- both files read without fault, this rule is the first that is broken, and this is the first place at which it is
 pub record FirstBreach (day clearing : List ℕ) (rule : Rule) (row col : ℕ) : Type 0 where
   pub day-reads : GoodDay day
   pub clearing-reads : GoodClearing (counts day) clearing
-  -- the rules with a lower number hold at all their places
-  pub earlier : (r : Rule) → number r < number rule → (i j : ℕ) → i < rows (dayOf day) r → j < columns (dayOf day) r →
+  -- the rules whose turn comes before hold at all their places
+  pub earlier : (r : Rule) → turn r < turn rule → (i j : ℕ) → i < rows (dayOf day) r → j < columns (dayOf day) r →
       Obeys (dayOf day) (pricesOf day clearing) (choiceOf day clearing) r i j
   -- this one is broken at this place, and at no place before it
   pub row-is : row < rows (dayOf day) rule

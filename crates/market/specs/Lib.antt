@@ -1,6 +1,6 @@
 -- What is meant: a day, a choice, prices; what a choice accepts; supply, demand, net position; the totals.
 pub mod Market
--- What is meant: the rules 11 to 17, each as a sentence and as the test at one place.
+-- What is meant: the rules 11 to 17, 20 and 21, each as a sentence and as the test at one place.
 pub mod Rules
 -- What is meant: another choice for the same day.
 pub mod Other

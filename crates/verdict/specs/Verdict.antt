@@ -45,7 +45,7 @@ statementLengthOf day = statementLength (netCount (counts day))
 abbrev pub roomStage : List ℕ → ℕ → Stage
 roomStage day room = once 18 (place 0 0) (leb (statementLengthOf day) room)
 
--- 1 to 8: the files. 11 to 17: the rules. 18: the room, of so many bytes
+-- 1 to 8: the files. 11 to 13, 20, 21, 14 to 17: the rules. 18: the room, of so many bytes
 abbrev pub stages : List ℕ → List ℕ → ℕ → List Stage
 stages day clearing room =
     fileStages day clearing
