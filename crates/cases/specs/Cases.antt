@@ -6,12 +6,12 @@ use lib.IntN.{pos, negℤ}
 use Rattle.stages.specs.Stage.{place}
 use Rattle.whole.specs.Whole.{sum, at, above-zero}
 use Rattle.rows.specs.Rows.{fieldOk}
-use Rattle.market.specs.Market.{wholeSurplus, rent, shortfall, totals}
+use Rattle.market.specs.Market.{blockVolume, surplusOf, rent, shortfall, totals}
 use Rattle.market.specs.Market as market
 use Rattle.market.specs.Rules.{test}
 use Rattle.day.specs.Day.{dayStages}
 use Rattle.clearing.specs.Clearing.{clearingStages}
-use Rattle.book.specs.Book.{floorOf, ceilingOf, stepOf, lineOf, forwardOf, backOf, blockOf, quantityOf, volumeOf, takenOf, pricesOf, flowOf}
+use Rattle.book.specs.Book.{floorOf, ceilingOf, stepOf, lineOf, forwardOf, backOf, blockOf, quantityOf, volumeOf, ratioOf, pricesOf, flowOf}
 use Rattle.verdict.specs.Verdict.{verdict}
 use Rattle.verdict.specs.declared.Outcome.{Outcome}
 use Rattle.verdict.specs.declared.Outcome.the-variants.{Accepted, Refused}
@@ -53,14 +53,14 @@ table =
     ∷ record { day = dayA 300 4500; clearing = clearingA (negℤ (pos 50001)) 5000 500 900 400 200 700 0; outcome = refused 11 0 0 }
     -- C7: price of zone 0 -50,000
     ∷ record { day = dayA 300 4500; clearing = clearingA (negℤ (pos 50000)) 5000 500 900 400 200 700 0; outcome = refused 15 0 0 }
-    -- C8: block accepted, flow 400, steps 800, 400, 0, 700, both prices 2,000
-    ∷ record { day = dayA 300 4500; clearing = clearingA (pos 2000) 2000 400 800 400 0 700 1; outcome = refused 17 0 0 }
+    -- C8: block accepted with 1,000, flow 400, steps 800, 400, 0, 700, both prices 2,000
+    ∷ record { day = dayA 300 4500; clearing = clearingA (pos 2000) 2000 400 800 400 0 700 1000; outcome = refused 17 0 0 }
     -- C9: C8 with price of zone 1 4,500
-    ∷ record { day = dayA 300 4500; clearing = clearingA (pos 2000) 4500 400 800 400 0 700 1; outcome = refused 16 0 0 }
+    ∷ record { day = dayA 300 4500; clearing = clearingA (pos 2000) 4500 400 800 400 0 700 1000; outcome = refused 16 0 0 }
     -- C10: flow 501 and step 0 at 1,001
     ∷ record { day = dayA 300 4500; clearing = clearingA (pos 2000) 5000 501 1001 400 200 700 0; outcome = refused 12 0 0 }
-    -- C11: in the day, block 0 sells 200 at 5,000; block accepted, step 2 at 0
-    ∷ record { day = dayA 200 5000; clearing = clearingA (pos 2000) 5000 500 900 400 0 700 1; outcome = accepted 4700000 3200000 0 1500000 1100 0 }
+    -- C11: in the day, block 0 sells 200 at 5,000; block accepted with 1,000, step 2 at 0
+    ∷ record { day = dayA 200 5000; clearing = clearingA (pos 2000) 5000 500 900 400 0 700 1000; outcome = accepted 4700000 3200000 0 1500000 1100 0 }
     -- C12: one zone, one period, no lines or orders, a price inside its bounds
     ∷ record { day = emptyDay; clearing = emptyClearing 2000; outcome = accepted 0 0 0 0 0 0 }
     ∷ []
@@ -71,6 +71,6 @@ Shown [] = Unit
 Shown (c ∷ cs) = (verdict (c .day) (c .clearing) 60 ≡ c .outcome) × Shown cs
 
 pub shown : Shown table
-unfolding dayStages clearingStages fieldOk floorOf ceilingOf stepOf lineOf forwardOf backOf blockOf quantityOf volumeOf takenOf
-    pricesOf flowOf test market.accepted wholeSurplus rent shortfall totals sum at above-zero
+unfolding dayStages clearingStages fieldOk floorOf ceilingOf stepOf lineOf forwardOf backOf blockOf quantityOf volumeOf ratioOf
+    pricesOf flowOf test blockVolume market.accepted surplusOf rent shortfall totals sum at above-zero
 shown = (refl, (refl, (refl, (refl, (refl, (refl, (refl, (refl, (refl, (refl, (refl, (refl, tt))))))))))))

@@ -5,7 +5,7 @@ use mathlib.Core.Bool.{true, false, cond}
 use lib.Dec.{eqb}
 use lib.IntN.{pos, negℤ}
 use Rattle.whole.specs.Whole.{sum}
-use Rattle.market.specs.Market.{Day, Choice, Prices, wholeSurplus}
+use Rattle.market.specs.Market.{Day, Choice, Prices, surplusOf, wholeSurplus}
 use Rattle.market.specs.Rules.{stepOk, lineOk, test}
 use Rattle.market.specs.declared.Side.the-variants.{Sell}
 use Rattle.market.specs.declared.Rule.the-variants.{Block}
@@ -24,7 +24,7 @@ oneBlock first second = record {
   forward = λ l h. pos 0;
   back = λ l h. pos 0;
   step = λ i. record { zone = 0; period = 0; side = Sell; limit = pos 0; quantity = 1 };
-  block = λ k. record { zone = 0; side = Sell; limit = pos 4000 };
+  block = λ k. record { zone = 0; side = Sell; limit = pos 4000; least = 1000 };
   quantity = λ k h. cond (eqb h 0) first second;
 }
 
@@ -33,18 +33,18 @@ twoPrices first second = λ z h. pos (cond (eqb h 0) first second)
 
 -- it is accepted
 abbrev taken : Choice
-taken = record { volume = λ i. 0; taken = λ k. true; flow = λ l h. pos 0 }
+taken = record { volume = λ i. 0; ratio = λ k. 1000; flow = λ l h. pos 0 }
 
 -- A plain average. Quantities 100 and 300, prices 6,000 and 3,200: 1,560,000 against 1,600,000, though the plain average is 4,600.
 pub plain-average : (wholeSurplus (oneBlock 100 300) (twoPrices 6000 3200) 0 ≡ negℤ (pos 40000))
     × (test (oneBlock 100 300) (twoPrices 6000 3200) taken Block 0 0 ≡ false)
-unfolding test wholeSurplus sum
+unfolding test surplusOf sum
 plain-average = (refl, refl)
 
 -- Rounding before comparing. Quantities 1 and 2, prices 3,999 and 4,000: 11,999 is below 12,000.
 pub rounding-before-comparing : (wholeSurplus (oneBlock 1 2) (twoPrices 3999 4000) 0 ≡ negℤ (pos 1))
     × (test (oneBlock 1 2) (twoPrices 3999 4000) taken Block 0 0 ≡ false)
-unfolding test wholeSurplus sum
+unfolding test surplusOf sum
 rounding-before-comparing = (refl, refl)
 
 -- Signs. At a price of -50 a sell step at -100 is in the money: of 10, all are accepted, and 9 are wrong.

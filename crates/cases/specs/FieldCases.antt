@@ -27,7 +27,7 @@ field number section row f = Refused number (fieldPlace section row f)
 abbrev inDay : ℕ → List ℕ → Outcome → Case
 inDay at bytes outcome = record { day = put at bytes (dayA 300 4500); clearing = clearingA (pos 2000) 5000 500 900 400 200 700 0; outcome = outcome }
 
--- in clearing A the prices start at 2, the flow at 12, the volumes at 18 and the block at 36
+-- in clearing A the prices start at 2, the flow at 12, the volumes at 18 and the block's ratio at 36
 abbrev inClearing : ℕ → List ℕ → Outcome → Case
 inClearing at bytes outcome = record { day = dayA 300 4500; clearing = put at bytes (clearingA (pos 2000) 5000 500 900 400 200 700 0); outcome = outcome }
 
@@ -79,14 +79,14 @@ ofStep =
 
 abbrev pub ofBlock : List Case
 ofBlock =
-    -- the fields of the block, one by one; no quantity; no quantity and a spare number that is not 0
+    -- the fields of the block, one by one; no quantity; no quantity and a least ratio above 1,000
     inDay 80 (2 ∷ []) (field 3 5 0 0)
     ∷ inDay 81 (2 ∷ []) (field 3 5 0 1)
-    ∷ inDay 82 (bytes16 256) (field 3 5 0 2)
+    ∷ inDay 82 (bytes16 1001) (field 3 5 0 2)
     ∷ inDay 84 (i32 (pos 1000001)) (field 3 5 0 3)
     ∷ inDay 88 (bytes32 1000001) (field 3 5 0 4)
     ∷ inDay 88 (bytes32 0) (field 3 5 0 4)
-    ∷ inDay 82 (bytes16 1 ++ i32 (pos 100) ++ bytes32 0) (field 3 5 0 2)
+    ∷ inDay 82 (bytes16 1001 ++ i32 (pos 100) ++ bytes32 0) (field 3 5 0 2)
     ∷ []
 
 abbrev pub ofTwoPeriods : List Case
@@ -106,7 +106,7 @@ ofClearing =
     inClearing 6 (i32 (negℤ (pos 1000001))) (field 7 1 1 0)
     ∷ inClearing 12 (i32 (pos 1000001)) (field 7 2 0 0)
     ∷ inClearing 30 (bytes32 1000001) (field 7 3 3 0)
-    ∷ inClearing 36 (2 ∷ []) (field 7 4 0 0)
+    ∷ inClearing 36 (bytes16 1001) (field 7 4 0 0)
     ∷ []
 
 network-shown : Shown ofNetwork

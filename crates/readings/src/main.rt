@@ -181,6 +181,11 @@ fn say_all<'a>(longer_day: &'a [u8], longer_clearing: &'a [u8], edits: &[u8]) {
     say_named(b"two empty files", b"", b"");
     say_named(b"day A with one byte more", longer_day, clearing);
     say_named(b"clearing A with one byte more", day, longer_clearing);
+    say_named(
+        b"clearing A with one byte a block",
+        day,
+        without_last(clearing),
+    );
     say_cuts(DAY, day, clearing);
     say_cuts(CLEARING, day, clearing);
     say_edits(edits, day, clearing);
