@@ -1,11 +1,13 @@
-/* What both rivals share: opening the sections, the plain judge, and the check around a quick pass.
+/* What the rivals share: opening the sections, the ordered judge, and the check around a quick pass.
 
    A check opens all sections and runs the quick pass, which reads every row once and says whether the
-   clearing is accepted. At any doubt the plain judge goes through the rules in order and names the fault. A
+   clearing is accepted. At any doubt the ordered judge goes through the rules in order and names the fault. A
    quick pass may lean on facts that hold for every accepted clearing:
    - a price between floor and ceiling, a flow within its capacities and a volume within its quantity are in
      range when those bounds are, so they need no range test of their own;
    - an accepted step gains at least nothing, so its surplus is a product of unsigned numbers;
+   - what is accepted of a block gains its ratio of the whole block's surplus, and what is left the rest;
+   - volumes rounded down have the sum of the exact ones only if all of them are whole;
    - in balance the nets are the flows leaving less those entering and sum to 0, so the rent is minus the
      sum of price times net, and the order value is both surpluses and the rent. */
 #ifndef JUDGE_H
@@ -16,6 +18,7 @@
 #include <string.h>
 
 enum { MOST = 1000000, PERIODS = 25, ZONES = 8, LINES = 16, STEPS = 2000, BLOCKS = 100 };
+enum { FULL = 1000 }; /* the ratio of a whole block, in thousandths */
 enum { STEP = 12, TOTALS = 6, HEAD = 2 + 8 * TOTALS + 2, PLACE = 3 };
 
 /* A cell is zone times 32 plus period. */
@@ -23,11 +26,12 @@ enum { WIDTH = 32, CELLS = ZONES * WIDTH };
 
 static inline uint32_t load16(const uint8_t *p) { uint16_t v; memcpy(&v, p, 2); return v; }
 static inline uint32_t load32(const uint8_t *p) { uint32_t v; memcpy(&v, p, 4); return v; }
+static inline uint64_t load64(const uint8_t *p) { uint64_t v; memcpy(&v, p, 8); return v; }
 static inline int64_t signed32(const uint8_t *p) { int32_t v; memcpy(&v, p, 4); return v; }
 
 /* -------------------------------------------------- the files and their sections */
 
-enum { PERIOD_ROWS, ZONE_ROWS, LINE_ROWS, STEP_ROWS, BLOCK_ROWS, PRICES, FLOWS, VOLUMES, TAKEN, SECTIONS };
+enum { PERIOD_ROWS, ZONE_ROWS, LINE_ROWS, STEP_ROWS, BLOCK_ROWS, PRICES, FLOWS, VOLUMES, RATIOS, SECTIONS };
 
 struct files {
     size_t count[SECTIONS];
@@ -48,7 +52,7 @@ static inline size_t row_length(const struct files *f, int s)
     case LINE_ROWS: return 2 + 8 * f->count[PERIOD_ROWS];
     case STEP_ROWS: return STEP;
     case BLOCK_ROWS: return 8 + 4 * f->count[PERIOD_ROWS];
-    case TAKEN: return 1;
+    case RATIOS: return 2;
     default: return 4;
     }
 }
@@ -86,7 +90,7 @@ static inline int open_next(struct files *f, int s, struct rest *day, struct res
     }
 }
 
-/* -------------------------------------------------- the plain judge, for what is refused */
+/* -------------------------------------------------- the ordered judge: the reading */
 
 static const uint8_t *row_at(const struct files *f, int s, size_t r)
 {
@@ -151,7 +155,7 @@ static int block_field_holds(const uint8_t *row, size_t zones, size_t h, size_t 
     switch (field) {
     case 0: return row[0] < zones;
     case 1: return row[1] <= 1;
-    case 2: return load16(row + 2) == 0;
+    case 2: return load16(row + 2) <= FULL;
     case 3: return is_price(row + 4);
     default:
         return load32(row + 8 + 4 * (field - 4)) <= MOST && (field < 3 + h || any_above_0(row + 8, h));
@@ -171,7 +175,7 @@ static int field_holds(const struct files *f, int s, size_t r, size_t field)
     case STEP_ROWS: return step_field_holds(row, n[ZONE_ROWS], n[PERIOD_ROWS], field);
     case BLOCK_ROWS: return block_field_holds(row, n[ZONE_ROWS], n[PERIOD_ROWS], field);
     case VOLUMES: return load32(row) <= MOST;
-    case TAKEN: return row[0] <= 1;
+    case RATIOS: return load16(row) <= FULL;
     default: return is_price(row);
     }
 }
@@ -199,6 +203,33 @@ static uint8_t judge_reading(struct files *f, struct rest day, struct rest clear
     return refuse(place, clearing.length ? 8 : 0, 0, 0, 0);
 }
 
+/* -------------------------------------------------- the ordered judge: the rules */
+
+/* A block's ratio, and the least that it may have if it is above 0. */
+static uint32_t ratio_of(const struct files *f, size_t k) { return load16(row_at(f, RATIOS, k)); }
+
+static uint32_t least_ratio(const struct files *f, size_t k)
+{
+    uint32_t least = load16(row_at(f, BLOCK_ROWS, k) + 2);
+    return least ? least : FULL;
+}
+
+/* A block's accepted volume in a period, in thousandths. */
+static uint32_t thousandths(const struct files *f, size_t k, size_t i)
+{
+    return load32(row_at(f, BLOCK_ROWS, k) + 8 + 4 * i) * ratio_of(f, k);
+}
+
+/* The surplus of a whole block. */
+static int64_t block_gain(const struct files *f, size_t k)
+{
+    const uint8_t *row = row_at(f, BLOCK_ROWS, k);
+    int64_t gain = 0;
+    for (size_t i = 0; i < f->count[PERIOD_ROWS]; i++)
+        gain += (int64_t)load32(row + 8 + 4 * i) * (price_at(f, row[0], i) - signed32(row + 4));
+    return row[1] ? -gain : gain;
+}
+
 /* Supply less demand and less what leaves, for each zone and period. */
 static void gather_imbalance(const struct files *f, int64_t imbalance[ZONES][PERIODS])
 {
@@ -211,7 +242,7 @@ static void gather_imbalance(const struct files *f, int64_t imbalance[ZONES][PER
     for (size_t i = 0; i < h; i++) {
         for (size_t k = 0; k < f->count[BLOCK_ROWS]; k++) {
             const uint8_t *row = row_at(f, BLOCK_ROWS, k);
-            int64_t volume = f->rows[TAKEN][k] ? load32(row + 8 + 4 * i) : 0;
+            int64_t volume = thousandths(f, k, i) / FULL;
             imbalance[row[0]][i] += row[1] ? -volume : volume;
         }
         for (size_t l = 0; l < f->count[LINE_ROWS]; l++) {
@@ -244,14 +275,12 @@ static int step_holds(const struct files *f, int rule, size_t r)
     return gain == 0 || volume == ((gain > 0) == (row[2] == 0) ? quantity : 0);
 }
 
-/* Whether rule 17 holds for a block. */
-static int block_holds(const struct files *f, size_t k)
+/* Whether rule 20, 21 or 17 holds for a block, 21 in a period. */
+static int block_holds(const struct files *f, int rule, size_t k, size_t i)
 {
-    const uint8_t *row = row_at(f, BLOCK_ROWS, k);
-    int64_t gain = 0;
-    for (size_t i = 0; i < f->count[PERIOD_ROWS]; i++)
-        gain += (int64_t)load32(row + 8 + 4 * i) * (price_at(f, row[0], i) - signed32(row + 4));
-    return !f->rows[TAKEN][k] || (row[1] ? gain <= 0 : gain >= 0);
+    if (rule == 21) return thousandths(f, k, i) % FULL == 0;
+    if (ratio_of(f, k) == 0) return 1;
+    return rule == 20 ? ratio_of(f, k) >= least_ratio(f, k) : block_gain(f, k) >= 0;
 }
 
 static int rule_holds(const struct files *f, int rule, size_t r, size_t i, int64_t imbalance[ZONES][PERIODS])
@@ -262,24 +291,41 @@ static int rule_holds(const struct files *f, int rule, size_t r, size_t i, int64
     case 14: return imbalance[r][i] == 0;
     case 12: case 16: return line_holds(f, rule, r, i);
     case 13: case 15: return step_holds(f, rule, r);
-    default: return block_holds(f, r);
+    default: return block_holds(f, rule, r, i);
     }
 }
 
-/* Refusals 11 to 17: rule by rule, each over all its places, which are those of a section's rows. */
+/* Refusals 11 to 17, 20 and 21: rule by rule in this order, each over all its places, which are the rows of
+   a section, or those in each period. */
 static uint8_t judge_rules(const struct files *f, size_t *place)
 {
-    static const int over[] = {ZONE_ROWS, LINE_ROWS, STEP_ROWS, ZONE_ROWS, STEP_ROWS, LINE_ROWS, BLOCK_ROWS};
+    static const struct { int rule, over, by_period; } order[] = {
+        {11, ZONE_ROWS, 1}, {12, LINE_ROWS, 1}, {13, STEP_ROWS, 0}, {20, BLOCK_ROWS, 0}, {21, BLOCK_ROWS, 1},
+        {14, ZONE_ROWS, 1}, {15, STEP_ROWS, 0}, {16, LINE_ROWS, 1}, {17, BLOCK_ROWS, 0}};
     int64_t imbalance[ZONES][PERIODS] = {{0}};
     gather_imbalance(f, imbalance);
-    for (int rule = 11; rule <= 17; rule++) {
-        int s = over[rule - 11];
-        size_t periods = s == ZONE_ROWS || s == LINE_ROWS ? f->count[PERIOD_ROWS] : 1;
-        for (size_t r = 0; r < f->count[s]; r++)
+    for (size_t n = 0; n < sizeof order / sizeof *order; n++) {
+        int rule = order[n].rule;
+        size_t periods = order[n].by_period ? f->count[PERIOD_ROWS] : 1;
+        for (size_t r = 0; r < f->count[order[n].over]; r++)
             for (size_t i = 0; i < periods; i++)
                 if (!rule_holds(f, rule, r, i, imbalance)) return refuse(place, rule, r, i, 0);
     }
     return refuse(place, 0, 0, 0, 0);
+}
+
+/* -------------------------------------------------- for quick passes */
+
+/* A head, which is the four bytes before a limit, and the limit are tested as one word: RAISE is added to it
+   and then what beyond_heads gives for the greatest head. All is in range if neither sum has an upper bit, of
+   a field of the head or of the limit. A step's head has four bytes, a block's two and the least ratio. */
+#define RAISE ((uint64_t)MOST << 32)
+#define STEP_UPPER 0x8000000080808080
+#define BLOCK_UPPER 0x8000000080008080
+
+static inline uint64_t beyond_heads(uint64_t upper, uint64_t most)
+{
+    return ((uint64_t)(0x7fffffff - 2 * MOST) << 32) | ((uint32_t)~upper - most);
 }
 
 /* -------------------------------------------------- the check */
@@ -309,10 +355,10 @@ static inline void write_statement(const struct files *f, const uint32_t *leavin
         memcpy(room + HEAD + 4 * z * h, leaving + z * WIDTH, 4 * h);
 }
 
-/* Judges a clearing file against a day file: 0 accepted, 1 to 8 and 11 to 18 refused, with the three numbers
-   of the place; the third is the field of refusals 3 and 7, else 0. On acceptance the statement stands at the
-   front of the room; a refusal leaves the room as it was. `places` is the length of `place` and must be
-   PLACE, else the answer is 255 and nothing changes. */
+/* Judges a clearing file against a day file: 0 accepted, 1 to 8, 11 to 18, 20 and 21 refused, with the three
+   numbers of the place; the third is the field of refusals 3 and 7, else 0. On acceptance the statement
+   stands at the front of the room; a refusal leaves the room as it was. `places` is the length of `place` and
+   must be PLACE, else the answer is 255 and nothing changes. */
 static inline uint8_t check_by(quick_pass *quick, struct rest day, struct rest clearing, uint8_t *room,
                                size_t room_length, size_t *place, size_t places)
 {

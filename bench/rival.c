@@ -13,15 +13,12 @@ struct tables {
     uint64_t surplus[2 * CELLS];
 };
 
-/* What the walk gathers. A clearing is in doubt at any bit in `some`, any sign in `sign` or `sign_word`, any
-   upper bit of a byte of a head or of a limit in `upper`. */
+/* What the walk gathers. A clearing is in doubt at any bit in `some`, any sign in `sign` or `sign_word`. */
 struct walk {
-    uint64_t some, sign_word, upper;
+    uint64_t some, sign_word;
     uint32_t sign;
-    uint64_t surplus[2], shortfall; /* of accepted blocks that sell and that buy; of the rejected */
+    uint64_t surplus[2], shortfall; /* of what blocks sell and what they buy; of what is left */
 };
-
-static inline uint64_t load64(const uint8_t *p) { uint64_t v; memcpy(&v, p, 8); return v; }
 
 /* All ones if a is above b, as signed numbers, else 0. */
 static inline uint32_t above(uint32_t a, uint32_t b) { return (int32_t)a > (int32_t)b ? 0xffffffff : 0; }
@@ -117,17 +114,6 @@ static inline void walk_lines(const struct files *f, const struct tables *t, uin
     w->sign |= sign;
 }
 
-/* A head, which is the four bytes before a limit, and the limit are tested as one word: RAISE is added to it
-   and then what this gives. All is in range if neither sum has an upper bit, of a byte or of the limit. */
-#define RAISE ((uint64_t)MOST << 32)
-#define UPPER 0x8000000080808080
-
-static inline uint64_t beyond_heads(size_t zones, size_t second, size_t third)
-{
-    uint64_t most = (zones - 1) | (second - 1) << 8 | (third - 1) << 16;
-    return ((uint64_t)(0x7fffffff - 2 * MOST) << 32) | (0x7f7f7f7f - most);
-}
-
 /* What the walk over the steps gathers beside the tables. */
 struct step_walk {
     uint64_t upper, sign, some;
@@ -158,7 +144,8 @@ static inline void walk_step(const uint8_t *row, const uint8_t *volume_row, uint
 /* All steps, two at a time. */
 static inline void walk_steps(const struct files *f, struct tables *t, struct walk *w)
 {
-    const uint64_t beyond = beyond_heads(f->count[ZONE_ROWS], f->count[PERIOD_ROWS], 2);
+    const uint64_t most = (f->count[ZONE_ROWS] - 1) | (f->count[PERIOD_ROWS] - 1) << 8 | 1 << 16;
+    const uint64_t beyond = beyond_heads(STEP_UPPER, most);
     const uint8_t *row = f->rows[STEP_ROWS], *volume = f->rows[VOLUMES];
     const uint8_t *last = volume + 8 * (f->count[STEP_ROWS] / 2);
     struct step_walk s = {0, 0, 0, 0};
@@ -167,39 +154,65 @@ static inline void walk_steps(const struct files *f, struct tables *t, struct wa
         walk_step(row + STEP, volume + 4, beyond, t, &s);
     }
     if (f->count[STEP_ROWS] % 2) walk_step(row, volume, beyond, t, &s);
-    w->upper |= s.upper;
     w->sign_word |= s.sign;
-    w->some |= s.some | (s.most >= MOST);
+    w->some |= s.some | (s.most >= MOST) | (s.upper & STEP_UPPER);
 }
 
-/* Blocks: the worth of a block is taken at raised prices and set against its raised limit. */
+/* Adds to a row of volumes what a ratio below FULL takes of the quantities, rounded down, and gives both
+   halves' sums of that. The ratio is taken in 2^32nds and rounded up by at most one of them, which for a
+   quantity up to MOST adds less than a thousandth. */
+static inline uint64_t add_parts(uint32_t *volume, const uint32_t *quantities, size_t fours, uint64_t ratio)
+{
+    const uint32_t share = (uint32_t)((ratio << 32) / FULL + 1);
+    uint64_t sums = 0;
+    for (size_t i = 0; i < 2 * fours; i++) {
+        uint64_t pair = load64((const uint8_t *)(quantities + 2 * i));
+        uint64_t even = (uint64_t)(uint32_t)pair * share, odd = (pair >> 32) * share;
+        uint64_t parts = even >> 32 | (odd & 0xffffffff00000000);
+        uint64_t volumes = load64((const uint8_t *)(volume + 2 * i)) + parts;
+        memcpy(volume + 2 * i, &volumes, 8);
+        sums += parts;
+    }
+    return sums;
+}
+
+/* Blocks: the worth of a block is taken at raised prices and set against its raised limit. The surpluses are
+   gathered in thousandths, which for the most and greatest blocks stays below 2^63. */
 static inline void walk_blocks(const struct files *f, struct tables *t, struct walk *w)
 {
-    const uint64_t beyond = beyond_heads(f->count[ZONE_ROWS], 2, 1);
-    size_t h = f->count[PERIOD_ROWS];
+    const uint64_t beyond = beyond_heads(BLOCK_UPPER, (f->count[ZONE_ROWS] - 1) | 1 << 8 | FULL << 16);
+    size_t h = f->count[PERIOD_ROWS], fours = (h + 3) / 4;
     uint32_t quantities[WIDTH] = {0};
-    uint64_t upper = 0;
+    uint64_t upper = 0, heads = 0, surplus[2] = {0, 0}, shortfall = 0;
     for (size_t k = 0; k < f->count[BLOCK_ROWS]; k++) {
         const uint8_t *row = f->rows[BLOCK_ROWS] + k * (8 + 4 * h);
-        uint64_t raised = load64(row) + RAISE;
-        size_t cells = raised % ZONES * WIDTH, side = raised / 256 % 2, taken = f->rows[TAKEN][k];
+        uint64_t raised = load64(row) + RAISE, ratio = load16(f->rows[RATIOS] + 2 * k);
+        size_t cells = raised % ZONES * WIDTH, side = raised / 256 % 2, least = load16(row + 2);
         memcpy(quantities, row + 8, 4 * h);
-        struct row q = walk_row(quantities, (h + 3) / 4, t->even + cells / 2, t->odd + cells / 2);
+        struct row q = walk_row(quantities, fours, t->even + cells / 2, t->odd + cells / 2);
         uint64_t whole = (uint32_t)q.sum + (q.sum >> 32), asked = whole * (raised >> 32);
         uint64_t gain = side ? asked - q.worth : q.worth - asked;
         upper |= q.upper;
-        w->upper |= raised | (raised + beyond);
-        w->some |= taken >> 1;
-        w->sign_word |= whole - 1;
-        if (taken) {
-            for (size_t i = 0; i < WIDTH; i++) t->volume[side * CELLS + cells + i] += quantities[i];
+        heads |= raised | (raised + beyond);
+        w->sign_word |= (whole - 1) | (FULL - ratio);
+        shortfall += (gain >> 63 ? 0 : gain) * (FULL - ratio);
+        if (ratio) {
             w->sign_word |= gain;
-            w->surplus[side] += gain;
-        } else {
-            w->shortfall += gain >> 63 ? 0 : gain;
+            surplus[side] += gain * ratio;
+        }
+        uint32_t *volume = t->volume + side * CELLS + cells;
+        if (ratio == FULL) {
+            for (size_t i = 0; i < WIDTH; i++) volume[i] += quantities[i];
+        } else if (ratio) {
+            uint64_t sums = add_parts(volume, quantities, fours, ratio);
+            w->sign_word |= ratio - (least ? least : FULL);
+            w->some |= whole * ratio - ((uint32_t)sums + (sums >> 32)) * FULL;
         }
     }
-    w->some |= upper & 0x8000000080000000;
+    w->some |= (upper & 0x8000000080000000) | (heads & BLOCK_UPPER);
+    w->surplus[0] += surplus[0] / FULL;
+    w->surplus[1] += surplus[1] / FULL;
+    w->shortfall += shortfall / FULL;
 }
 
 /* Balance, and the totals; the nets are lifted beyond 16 flows to be unsigned. */
@@ -240,7 +253,7 @@ static int quick(const struct files *f, uint32_t *leaving, uint64_t *totals)
     walk_steps(f, &t, &w);
     walk_blocks(f, &t, &w);
     walk_balance(f, &t, leaving, &w, totals);
-    return !(w.some | w.sign >> 31 | w.sign_word >> 63 | (w.upper & UPPER));
+    return !(w.some | w.sign >> 31 | w.sign_word >> 63);
 }
 
 uint8_t rival_check(const uint8_t *day, size_t day_length, const uint8_t *clearing, size_t clearing_length,

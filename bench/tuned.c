@@ -62,11 +62,11 @@ struct tables {
 };
 
 /* What the walk gathers. A clearing is in doubt at any bit in `some` or `some_word`, any sign in `sign` or
-   `sign_word`, any byte of a head beyond its limit. */
+   `sign_word`, any byte of a step's head beyond its limit. */
 struct walk {
-    four some, sign, heads;          /* the heads of blocks */
+    four some, sign;
     uint64_t some_word, sign_word;
-    uint64_t surplus[2], shortfall;  /* of accepted blocks that sell and that buy; of the rejected */
+    uint64_t surplus[2], shortfall;  /* of what blocks sell and what they buy; of what is left */
 };
 
 struct step_walk {
@@ -185,13 +185,25 @@ static __attribute__((noinline)) struct step_walk walk_steps(const struct files 
     return w;
 }
 
-/* Blocks: the worth of a block is taken at raised prices and set against its raised limit. */
+/* What a ratio below FULL takes of each of four quantities, rounded down. The ratio is given in 2^32nds and
+   rounded up by at most one of them, which for a quantity up to MOST adds less than a thousandth. */
+INLINE four parts_of(four quantity, two share)
+{
+    return (four)(EVEN_PRODUCTS(quantity, share) >> 32
+                  | (EVEN_PRODUCTS(odd(quantity), share) & 0xffffffff00000000));
+}
+
+/* Blocks: the worth of a block is taken at raised prices and set against its raised limit. The surpluses are
+   gathered in thousandths, which for the most and greatest blocks stays below 2^63. */
 INLINE void walk_blocks(const struct files *f, size_t h, struct tables *t, struct walk *w)
 {
+    const uint64_t beyond = beyond_heads(BLOCK_UPPER, (f->count[ZONE_ROWS] - 1) | 1 << 8 | FULL << 16);
+    uint64_t heads = 0, surplus[2] = {0, 0}, shortfall = 0, exact = 0;
+    four rounded = {0};
     for (size_t k = 0; k < f->count[BLOCK_ROWS]; k++) {
         const uint8_t *row = f->rows[BLOCK_ROWS] + k * (8 + 4 * h), *quantities = row + 8;
-        uint32_t head = load32(row), limit = load32(row + 4) + MOST, taken = f->rows[TAKEN][k];
-        size_t zone = head % ZONES * (WIDTH / 4), side = head / 256 % 2;
+        uint64_t raised = load64(row) + RAISE, limit = raised >> 32, ratio = load16(f->rows[RATIOS] + 2 * k);
+        size_t zone = raised % ZONES * (WIDTH / 4), side = raised / 256 % 2, least = load16(row + 2);
         four quantity = {0};
         two worth = {0};
         for (size_t i = 0; i < h; i += 4) {
@@ -203,18 +215,31 @@ INLINE void walk_blocks(const struct files *f, size_t h, struct tables *t, struc
         }
         uint64_t whole = quantity[0] + quantity[1] + quantity[2] + quantity[3];
         uint64_t gain = side ? whole * limit - sum2(worth) : sum2(worth) - whole * limit;
-        w->heads = GREATER_BYTES(w->heads, (four){head});
-        w->some_word |= taken >> 1;
-        w->sign_word |= (2 * MOST - (uint64_t)limit) | (whole - 1);
-        if (taken) {
-            four *volume = t->volume.at + side * (CELLS / 4) + zone;
-            for (size_t i = 0; i < h; i += 4) volume[i / 4] += load_up_to_4(quantities + 4 * i, h - i);
+        heads |= raised | (raised + beyond);
+        w->sign_word |= (whole - 1) | (FULL - ratio);
+        shortfall += (gain >> 63 ? 0 : gain) * (FULL - ratio);
+        if (ratio) {
             w->sign_word |= gain;
-            w->surplus[side] += gain;
-        } else {
-            w->shortfall += gain >> 63 ? 0 : gain;
+            surplus[side] += gain * ratio;
+        }
+        four *volume = t->volume.at + side * (CELLS / 4) + zone;
+        if (ratio == FULL) {
+            for (size_t i = 0; i < h; i += 4) volume[i / 4] += load_up_to_4(quantities + 4 * i, h - i);
+        } else if (ratio) {
+            const two share = (two){0} + (uint32_t)((ratio << 32) / FULL + 1);
+            for (size_t i = 0; i < h; i += 4) {
+                four parts = parts_of(load_up_to_4(quantities + 4 * i, h - i), share);
+                volume[i / 4] += parts;
+                rounded += parts;
+            }
+            w->sign_word |= ratio - (least ? least : FULL);
+            exact += whole * ratio;
         }
     }
+    w->some_word |= (heads & BLOCK_UPPER) | (exact - sum4(rounded) * FULL);
+    w->surplus[0] = surplus[0] / FULL;
+    w->surplus[1] = surplus[1] / FULL;
+    w->shortfall = shortfall / FULL;
 }
 
 /* The whole pass: whether the clearing is accepted, and then its totals. */
@@ -227,8 +252,8 @@ INLINE int walk_all(const struct files *f, size_t h, four *leaving, uint64_t *to
     struct step_walk steps = walk_steps(f, &t);
     walk_blocks(f, h, &t, &w);
 
-    /* balance; the nets are raised beyond 16 flows to be unsigned */
-    enum { RAISE = 1 << 24 };
+    /* balance; the nets are lifted beyond 16 flows to be unsigned */
+    enum { LIFT = 1 << 24 };
     four bought = {0}, raised = {0};
     two worth = {0};
     for (size_t z = 0; z < f->count[ZONE_ROWS]; z++)
@@ -238,20 +263,19 @@ INLINE int walk_all(const struct files *f, size_t h, four *leaving, uint64_t *to
             w.some |= t.volume.at[at] - demand - net;
             bought += demand;
             raised += t.raised[at];
-            net += RAISE;
+            net += LIFT;
             worth += EVEN_PRODUCTS(net, t.raised[at]) + EVEN_PRODUCTS(odd(net), t.raised_odd[at]);
         }
     totals[1] = sum2(steps.buys) + w.surplus[1];
     totals[2] = sum2(steps.surplus - steps.buys) + w.surplus[0];
-    totals[3] = sum4(raised) * RAISE - sum2(worth);
+    totals[3] = sum4(raised) * LIFT - sum2(worth);
     totals[0] = totals[1] + totals[2] + totals[3];
     totals[4] = sum4(bought);
     totals[5] = w.shortfall;
 
     uint32_t zone = (uint32_t)f->count[ZONE_ROWS] - 1, step = zone | (uint32_t)(h - 1) << 8 | 1 << 16;
     bytes far_steps = (bytes)steps.heads > (bytes)((four){0} + step);
-    bytes far_blocks = (bytes)w.heads > (bytes)((four){0} + (zone | 1 << 8));
-    two doubt = (two)(w.some | (w.sign | steps.sign) >> 31 | (four)far_steps | (four)far_blocks);
+    two doubt = (two)(w.some | (w.sign | steps.sign) >> 31 | (four)far_steps);
     return !(doubt[0] | doubt[1] | w.some_word | w.sign_word >> 63);
 }
 
