@@ -1,8 +1,9 @@
 /* What the rivals share: opening the sections, the ordered judge, and the check around a quick pass.
 
    A check opens all sections and runs the quick pass, which reads every row once and says whether the
-   clearing is accepted. At any doubt the ordered judge goes through the rules in order and names the fault. A
-   quick pass may lean on facts that hold for every accepted clearing:
+   clearing is accepted. At any doubt the ordered judge decides: it goes through the rules in order and names
+   the fault, or finds none and counts the totals itself. A quick pass may lean on facts that hold for every
+   accepted clearing:
    - a price between floor and ceiling, a flow within its capacities and a volume within its quantity are in
      range when those bounds are, so they need no range test of their own;
    - an accepted step gains at least nothing, so its surplus is a product of unsigned numbers;
@@ -314,6 +315,48 @@ static uint8_t judge_rules(const struct files *f, size_t *place)
     return refuse(place, 0, 0, 0, 0);
 }
 
+/* -------------------------------------------------- the ordered judge: the totals */
+
+/* The totals in the statement's order. */
+enum { VALUE, BUYERS, SELLERS, RENT, TRADED, SHORTFALL };
+
+/* Counts a volume that an order has accepted in a period; a step's row and a block's begin with the zone and
+   have the limit at the same place. */
+static void count_volume(const struct files *f, const uint8_t *row, size_t period, int buys, int64_t volume,
+                         uint64_t *totals)
+{
+    int64_t limit = signed32(row + 4), price = price_at(f, row[0], period);
+    totals[VALUE] += (buys ? limit : -limit) * volume;
+    totals[buys ? BUYERS : SELLERS] += (buys ? limit - price : price - limit) * volume;
+    totals[TRADED] += buys ? volume : 0;
+}
+
+/* Counts the totals of an accepted clearing, and for each cell what leaves. */
+static void count_totals(const struct files *f, uint32_t *leaving, uint64_t *totals)
+{
+    size_t h = f->count[PERIOD_ROWS];
+    memset(leaving, 0, CELLS * sizeof *leaving);
+    memset(totals, 0, TOTALS * sizeof *totals);
+    for (size_t r = 0; r < f->count[STEP_ROWS]; r++) {
+        const uint8_t *row = row_at(f, STEP_ROWS, r);
+        count_volume(f, row, row[1], row[2], load32(row_at(f, VOLUMES, r)), totals);
+    }
+    for (size_t k = 0; k < f->count[BLOCK_ROWS]; k++) {
+        const uint8_t *row = row_at(f, BLOCK_ROWS, k);
+        int64_t left = block_gain(f, k) * (FULL - (int64_t)ratio_of(f, k)) / FULL;
+        for (size_t i = 0; i < h; i++) count_volume(f, row, i, row[1], thousandths(f, k, i) / FULL, totals);
+        totals[SHORTFALL] += left > 0 ? left : 0;
+    }
+    for (size_t l = 0; l < f->count[LINE_ROWS]; l++)
+        for (size_t i = 0; i < h; i++) {
+            const uint8_t *row = row_at(f, LINE_ROWS, l);
+            int64_t flow = signed32(row_at(f, FLOWS, l * h + i));
+            totals[RENT] += flow * (price_at(f, row[1], i) - price_at(f, row[0], i));
+            leaving[row[0] * WIDTH + i] += (uint32_t)flow;
+            leaving[row[1] * WIDTH + i] -= (uint32_t)flow;
+        }
+}
+
 /* -------------------------------------------------- for quick passes */
 
 /* A head, which is the four bytes before a limit, and the limit are tested as one word: RAISE is added to it
@@ -339,7 +382,7 @@ static inline int open_all(struct files *f, struct rest day, struct rest clearin
 }
 
 /* A quick pass: whether the clearing is accepted, and then the totals, and for each cell the flows leaving
-   less those entering, which it adds to zeros. */
+   less those entering, which it adds to zeros. If it says no, what it leaves in both is of no account. */
 typedef int quick_pass(const struct files *f, uint32_t *leaving, uint64_t *totals);
 
 /* The nets of a clearing in balance are what leaves. */
@@ -368,7 +411,9 @@ static inline uint8_t check_by(quick_pass *quick, struct rest day, struct rest c
     uint64_t totals[TOTALS];
     if (!open_all(&f, day, clearing) || !quick(&f, leaving, totals)) {
         uint8_t fault = judge_reading(&f, day, clearing, place);
-        return fault ? fault : judge_rules(&f, place);
+        if (!fault) fault = judge_rules(&f, place);
+        if (fault) return fault;
+        count_totals(&f, leaving, totals);
     }
     if (room_length < HEAD + 4 * f.count[PRICES]) return refuse(place, 18, 0, 0, 0);
     write_statement(&f, leaving, totals, room);
