@@ -10,13 +10,13 @@
 #include "../include/ayinzhad.h"
 
 typedef uint8_t check(const uint8_t *, size_t, const uint8_t *, size_t, uint8_t *, size_t, size_t *, size_t);
-check rival_check, tuned_check, floor_check;
+check rival_check, tuned_check, ordered_check, floor_check;
 
 static const struct checker {
     const char *name;
     check *check;
 } checkers[] = {{"ayinzhad", ayinzhad_check}, {"rival", rival_check}, {"tuned", tuned_check},
-                {"floor", floor_check}};
+                {"ordered", ordered_check}, {"floor", floor_check}};
 
 /* A file is cut at MOST bytes, longer than any that reads without fault. A room has some bytes BEHIND the
    longest statement. */
