@@ -59,7 +59,7 @@ def main(path, folder):
 
     # a refusal gives zero totals
     lent = filled(ctypes.c_int64, 6)
-    hold("the totals of a refusal", (library.ayinzhad_totals(day, len(day) - 1, clearing, 37, lent, 6), *lent), (1,) + (0,) * 6)
+    hold("the totals of a refusal", (library.ayinzhad_totals(day, len(day) - 1, clearing, len(clearing), lent, 6), *lent), (1,) + (0,) * 6)
 
     # the look-up
     hold("the zones", checker.look_up(day, 2), (0, bytes([10, 0, 20, 0])))
@@ -75,6 +75,12 @@ def main(path, folder):
         bad[start + 12 + offset] = 100
         hold("field %d of the step 1" % field, checker.check(bytes(bad), clearing)[:2], (3, (4, 1, field)))
         hold("  named by the look-up", checker.look_up(bytes(bad), 1), (3, (4, 1, field)))
+
+    # the ratio of the block, in the clearing's last two bytes: below the least, which 0 says is 1,000; beyond 1,000; in one byte
+    for ratio, number, where in ((999, 20, (0, 0, 0)), (1, 20, (0, 0, 0)), (1001, 7, (4, 0, 0))):
+        got = checker.check(day, clearing[:-2] + ratio.to_bytes(2, "little"))[:2]
+        hold("a ratio of %d" % ratio, got, (number, where))
+    hold("a ratio in one byte", checker.check(day, clearing[:-1])[:2], (5, (4, 0, 0)))
     return 0 if all(said) else 1
 
 
