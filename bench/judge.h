@@ -91,6 +91,15 @@ static inline int open_next(struct files *f, int s, struct rest *day, struct res
     }
 }
 
+/* What a block adds to the totals of a quick pass, in thousandths. The top bit of what it gives is set at a
+   doubt: no quantity, a ratio beyond the most, accepted and not in the money. */
+static inline uint64_t weigh(uint64_t whole, uint64_t gain, uint64_t ratio, uint64_t *surplus, uint64_t *shortfall)
+{
+    *shortfall += (gain >> 63 ? 0 : gain) * (FULL - ratio);
+    *surplus += gain * ratio;
+    return (whole - 1) | (FULL - ratio) | (ratio ? gain : 0);
+}
+
 /* -------------------------------------------------- the ordered judge: the reading */
 
 static const uint8_t *row_at(const struct files *f, int s, size_t r)

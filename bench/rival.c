@@ -194,12 +194,7 @@ static inline void walk_blocks(const struct files *f, struct tables *t, struct w
         uint64_t gain = side ? asked - q.worth : q.worth - asked;
         upper |= q.upper;
         heads |= raised | (raised + beyond);
-        w->sign_word |= (whole - 1) | (FULL - ratio);
-        shortfall += (gain >> 63 ? 0 : gain) * (FULL - ratio);
-        if (ratio) {
-            w->sign_word |= gain;
-            surplus[side] += gain * ratio;
-        }
+        w->sign_word |= weigh(whole, gain, ratio, surplus + side, &shortfall);
         uint32_t *volume = t->volume + side * CELLS + cells;
         if (ratio == FULL) {
             for (size_t i = 0; i < WIDTH; i++) volume[i] += quantities[i];

@@ -216,12 +216,7 @@ INLINE void walk_blocks(const struct files *f, size_t h, struct tables *t, struc
         uint64_t whole = quantity[0] + quantity[1] + quantity[2] + quantity[3];
         uint64_t gain = side ? whole * limit - sum2(worth) : sum2(worth) - whole * limit;
         heads |= raised | (raised + beyond);
-        w->sign_word |= (whole - 1) | (FULL - ratio);
-        shortfall += (gain >> 63 ? 0 : gain) * (FULL - ratio);
-        if (ratio) {
-            w->sign_word |= gain;
-            surplus[side] += gain * ratio;
-        }
+        w->sign_word |= weigh(whole, gain, ratio, surplus + side, &shortfall);
         four *volume = t->volume.at + side * (CELLS / 4) + zone;
         if (ratio == FULL) {
             for (size_t i = 0; i < h; i += 4) volume[i / 4] += load_up_to_4(quantities + 4 * i, h - i);

@@ -1,49 +1,31 @@
 -- The errors that the rule paper says this trade has made, each with its numbers and what is right. Assumes nothing.
 use Prim.Native.Nat.{ℕ}
 use mathlib.Core.Path.{_≡_, refl}
-use mathlib.Core.Bool.{true, false, cond}
-use lib.Dec.{eqb}
+use mathlib.Core.Bool.{true, false}
 use lib.IntN.{pos, negℤ}
 use Rattle.whole.specs.Whole.{sum}
-use Rattle.market.specs.Market.{Day, Choice, Prices, surplusOf, wholeSurplus}
+use Rattle.market.specs.Market.{Day, Choice, surplusOf, wholeSurplus}
 use Rattle.market.specs.Rules.{stepOk, lineOk, test}
 use Rattle.market.specs.declared.Side.the-variants.{Sell}
 use Rattle.market.specs.declared.Rule.the-variants.{Block}
+use Rattle.cases.specs.OneBlock.{oneBlock, accepting, twoPrices}
 
--- a day of two periods with one block, which sells at 4,000, and these quantities
-abbrev oneBlock : ℕ → ℕ → Day
-oneBlock first second = record {
-  periods = 2;
-  zones = 1;
-  lines = 0;
-  steps = 0;
-  blocks = 1;
-  floor = λ h. negℤ (pos 1000000);
-  ceiling = λ h. pos 1000000;
-  line = λ l. record { from = 0; to = 0 };
-  forward = λ l h. pos 0;
-  back = λ l h. pos 0;
-  step = λ i. record { zone = 0; period = 0; side = Sell; limit = pos 0; quantity = 1 };
-  block = λ k. record { zone = 0; side = Sell; limit = pos 4000; least = 1000 };
-  quantity = λ k h. cond (eqb h 0) first second;
-}
+-- a block that sells at 4,000, all or nothing, and these quantities; it is accepted
+abbrev atFourThousand : ℕ → ℕ → Day
+atFourThousand = oneBlock 4000 1000
 
-abbrev twoPrices : ℕ → ℕ → Prices
-twoPrices first second = λ z h. pos (cond (eqb h 0) first second)
-
--- it is accepted
 abbrev taken : Choice
-taken = record { volume = λ i. 0; ratio = λ k. 1000; flow = λ l h. pos 0 }
+taken = accepting 1000
 
 -- A plain average. Quantities 100 and 300, prices 6,000 and 3,200: 1,560,000 against 1,600,000, though the plain average is 4,600.
-pub plain-average : (wholeSurplus (oneBlock 100 300) (twoPrices 6000 3200) 0 ≡ negℤ (pos 40000))
-    × (test (oneBlock 100 300) (twoPrices 6000 3200) taken Block 0 0 ≡ false)
+pub plain-average : (wholeSurplus (atFourThousand 100 300) (twoPrices 6000 3200) 0 ≡ negℤ (pos 40000))
+    × (test (atFourThousand 100 300) (twoPrices 6000 3200) taken Block 0 0 ≡ false)
 unfolding test surplusOf sum
 plain-average = (refl, refl)
 
 -- Rounding before comparing. Quantities 1 and 2, prices 3,999 and 4,000: 11,999 is below 12,000.
-pub rounding-before-comparing : (wholeSurplus (oneBlock 1 2) (twoPrices 3999 4000) 0 ≡ negℤ (pos 1))
-    × (test (oneBlock 1 2) (twoPrices 3999 4000) taken Block 0 0 ≡ false)
+pub rounding-before-comparing : (wholeSurplus (atFourThousand 1 2) (twoPrices 3999 4000) 0 ≡ negℤ (pos 1))
+    × (test (atFourThousand 1 2) (twoPrices 3999 4000) taken Block 0 0 ≡ false)
 unfolding test surplusOf sum
 rounding-before-comparing = (refl, refl)
 

@@ -4,6 +4,8 @@ pub mod Files
 pub mod Cases
 -- The table of fields that a refusal names, and that each has its outcome.
 pub mod FieldCases
+-- A day without bytes, with one block.
+pub mod OneBlock
 -- The table of blocks accepted in part, and that each has its outcome.
 pub mod RatioCases
 -- Other choices than the accepted one, and that the shortfall is needed.

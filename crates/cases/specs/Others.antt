@@ -84,7 +84,8 @@ left-out = refl
 
 -- with the least ratio of 500 and half of it accepted: the shortfall is that of the other half, 100 times 500. All of it is worth just as
 -- much more
-pub half-left : verdict (dayWith 500 200 4500) (clearingA (pos 2000) 5000 500 900 400 100 700 500) 60 ≡ accepted 4750000 3200000 50000 1500000 1100 50000
+pub half-left : verdict (dayWith 500 200 4500) (clearingA (pos 2000) 5000 500 900 400 100 700 500) 60
+    ≡ accepted 4750000 3200000 50000 1500000 1100 50000
 unfolding dayStages clearingStages fieldOk floorOf ceilingOf stepOf lineOf forwardOf backOf blockOf quantityOf volumeOf ratioOf
     pricesOf flowOf test blockVolume market.accepted surplusOf rent shortfall totals sum at above-zero
 half-left = refl

@@ -2,23 +2,22 @@
 -- and one statement about it. Assumes nothing.
 use Prim.Native.Nat.{ℕ, _+_}
 use mathlib.Core.Path.{_≡_, refl}
-use mathlib.Core.Bool.{true, false, cond}
+use mathlib.Core.Bool.{true, false}
 use mathlib.Core.List.{List, [], _∷_}
-use lib.Dec.{eqb}
-use lib.IntN.{pos, negℤ}
+use lib.IntN.{pos}
 use Rattle.whole.specs.Whole.{sum, at, above-zero}
 use Rattle.rows.specs.Rows.{fieldOk}
-use Rattle.market.specs.Market.{Day, Choice, Prices, blockVolume, surplusOf, rent, shortfall, totals}
+use Rattle.market.specs.Market.{Day, Choice, blockVolume, surplusOf, rent, shortfall, totals}
 use Rattle.market.specs.Market as market
 use Rattle.market.specs.Rules.{wholeOk, test}
-use Rattle.market.specs.declared.Side.the-variants.{Sell}
-use Rattle.market.specs.declared.Rule.the-variants.{Ratio, Whole}
+use Rattle.market.specs.declared.Rule.the-variants.{Whole}
 use Rattle.day.specs.Day.{dayStages}
 use Rattle.clearing.specs.Clearing.{clearingStages}
 use Rattle.book.specs.Book.{floorOf, ceilingOf, stepOf, lineOf, forwardOf, backOf, blockOf, quantityOf, volumeOf, ratioOf, pricesOf, flowOf}
 use Rattle.verdict.specs.declared.Outcome.{Outcome}
 use Rattle.cases.specs.Files.{dayWith, clearingWith, clearingA}
 use Rattle.cases.specs.Cases.{Case, accepted, refused, Shown}
+use Rattle.cases.specs.OneBlock.{oneBlock, accepting, twoPrices}
 
 -- day A's block with a least ratio, a quantity and a price; step 2 and the block share 200 of zone 1 where nothing is wrong
 abbrev block : ℕ → ℕ → ℕ → ℕ → ℕ → Outcome → Case
@@ -62,40 +61,25 @@ unfolding dayStages clearingStages fieldOk floorOf ceilingOf stepOf lineOf forwa
     pricesOf flowOf test blockVolume market.accepted surplusOf rent shortfall totals sum at above-zero
 shown = (refl, (refl, (refl, (refl, (refl, (refl, (refl, (refl, (refl, (refl, (refl, (refl, (refl, (refl, (refl, (refl, tt))))))))))))))))
 
--- ---- a block of two periods, which sells at 3,000 and may be accepted from 100 on
+-- ---- a block of two periods, which sells at 3,000, and half of it
 
 abbrev twoPeriods : ℕ → ℕ → Day
-twoPeriods first second = record {
-  periods = 2;
-  zones = 1;
-  lines = 0;
-  steps = 0;
-  blocks = 1;
-  floor = λ h. negℤ (pos 1000000);
-  ceiling = λ h. pos 1000000;
-  line = λ l. record { from = 0; to = 0 };
-  forward = λ l h. pos 0;
-  back = λ l h. pos 0;
-  step = λ i. record { zone = 0; period = 0; side = Sell; limit = pos 0; quantity = 1 };
-  block = λ k. record { zone = 0; side = Sell; limit = pos 3000; least = 100 };
-  quantity = λ k h. cond (eqb h 0) first second;
-}
+twoPeriods = oneBlock 3000 100
 
 abbrev half : Choice
-half = record { volume = λ i. 0; ratio = λ k. 500; flow = λ l h. pos 0 }
-
-abbrev twoPrices : ℕ → ℕ → Prices
-twoPrices first second = λ z h. pos (cond (eqb h 0) first second)
+half = accepting 500
 
 -- Half of 1 and half of 999 are not whole, though half of the 1,000 that they are together is.
 pub whole-in-each-period : (wholeOk 500 (1 + 999) ≡ true)
-    × ((test (twoPeriods 1 999) (twoPrices 4000 4000) half Whole 0 0 ≡ false) × (test (twoPeriods 1 999) (twoPrices 4000 4000) half Whole 0 1 ≡ false))
+    × ((test (twoPeriods 1 999) (twoPrices 4000 4000) half Whole 0 0 ≡ false)
+    × (test (twoPeriods 1 999) (twoPrices 4000 4000) half Whole 0 1 ≡ false))
 unfolding test
 whole-in-each-period = (refl, (refl, refl))
 
 -- The shortfall is signed over the periods. Of 100 and 300 half is left; at 6,000 and 2,200 that gains 150,000 and loses 120,000. At 6,000
 -- and 2,000 it is just nothing, and at 6,000 and 1,900 it is cut at 0.
 pub signed-over-periods : (shortfall (twoPeriods 100 300) (twoPrices 6000 2200) half ≡ pos 30000)
-    × ((shortfall (twoPeriods 100 300) (twoPrices 6000 2000) half ≡ pos 0) × (shortfall (twoPeriods 100 300) (twoPrices 6000 1900) half ≡ pos 0))
+    × ((shortfall (twoPeriods 100 300) (twoPrices 6000 2000) half ≡ pos 0)
+    × (shortfall (twoPeriods 100 300) (twoPrices 6000 1900) half ≡ pos 0))
 unfolding shortfall surplusOf blockVolume above-zero sum
 signed-over-periods = (refl, (refl, refl))

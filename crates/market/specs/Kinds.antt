@@ -5,7 +5,7 @@
 use Prim.Native.Nat.{ℕ, zero, suc, _*_, _%_, _<_, _≤_}
 use native.Mathlib.Nat.{mul-comm, eq-or-lt-of-le}
 use native.Mathlib.Omega.{arith}
-use mathlib.Core.Path.{_≡_, refl, sym, ap, _∙_}
+use mathlib.Core.Path.{_≡_, sym, ap, _∙_}
 use mathlib.Core.Logic.{_⊎_, inl, inr}
 use lib.IntN.{ℤ, pos, negsuc, negℤ, _+ℤ_, _-ℤ_, _*ℤ_, zero-*ℤ, *ℤ-zero, *ℤ-comm}
 use Rattle.whole.specs.Whole.{_≼_, _≺_, sum, at, above-zero}
@@ -111,7 +111,7 @@ line-best d p c other l rule within = sum-mono (d .periods) _ _ λ h n.
 
 -- ==== a block
 
--- a block with these volumes, one for each period
+-- what is accepted of it, a trade for each period
 unfoldable pub blockItem : Day → Choice → ℕ → Item
 blockItem d c k = all (d .periods) (λ h. tradeItem (blockTrade (d .block k) h (blockVolume (c .ratio k) (d .quantity k h))))
 
@@ -138,7 +138,8 @@ no-volume quantity = omega arith
 
 module _ (d : Day) (p : Prices) (c : Choice) (k : ℕ) where
   -- where its volumes are whole, a thousand times its surplus is its ratio of the whole block's
-  in-thousandths : ((h : ℕ) → h < d .periods → WholeAt d c k h) → pos mostRatio *ℤ blockSurplus d p c k ≡ pos (c .ratio k) *ℤ wholeSurplus d p k
+  in-thousandths : ((h : ℕ) → h < d .periods → WholeAt d c k h) →
+      pos mostRatio *ℤ blockSurplus d p c k ≡ pos (c .ratio k) *ℤ wholeSurplus d p k
   unfolding surplusOf
   in-thousandths whole =
       simp (← sum-scale) (sum-cong (d .periods) _ _ (λ h n.
@@ -175,7 +176,8 @@ left-best other taken left whole ratio mine thousand most sum pays none = by (�
     by : (pos 0 ≼ whole) ⊎ (whole ≺ pos 0) → (0 ≡ mine) ⊎ (0 < mine) → other ≼ taken +ℤ above-zero left
     by (inl w) _ =
         let at-most : other ≼ whole = *-cancel (pos mostRatio) other whole (simp linear (omega arith))
-        (rw (thousand, *ℤ-comm (pos ratio) whole, *ℤ-comm (pos mostRatio) whole) (*-mono whole (pos ratio) (pos mostRatio) w (pos-≼ ratio mostRatio .1 most))) in
+        (rw (thousand, *ℤ-comm (pos ratio) whole, *ℤ-comm (pos mostRatio) whole)
+        (*-mono whole (pos ratio) (pos mostRatio) w (pos-≼ ratio mostRatio .1 most))) in
         given at-most (given (above-zero-above left) (given sum (simp linear (omega arith))))
     by (inr w) (inr l) = absurd (given (pays l) (given w (simp linear (omega arith))))
     by (inr w) (inl z) =

@@ -1,5 +1,5 @@
--- The rules of a clearing, 11 to 17, 20 and 21: each as a sentence in the rule paper's words, at one place and at all of them, and as the test that is
--- made at one place. That a test passes just where its sentence holds is proved in the file after this one. Assumes nothing.
+-- The rules of a clearing, 11 to 17, 20 and 21: each as a sentence in the rule paper's words, at one place and at all of them, and as the
+-- test that is made at one place. That a test passes just where its sentence holds is proved in the file after this one. Assumes nothing.
 use Prim.Native.Nat.{ℕ, _*_, _%_, _<_, _≤_}
 use mathlib.Core.Path.{_≡_}
 use mathlib.Core.Bool.{Bool, _&&_, _||_}

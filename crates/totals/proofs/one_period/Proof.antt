@@ -3,7 +3,7 @@ use Prim.Native.Nat.{ℕ, _<_, _≤_}
 use mathlib.Core.Path.{_≡_, _∙_}
 use mathlib.Core.List.{List}
 use Rattle.whole.specs.Size.{same}
-use Rattle.limits.specs.Limits.{mostRatio, mostVolume}
+use Rattle.limits.specs.Limits.{mostRatio}
 use Rattle.market.specs.MeasureLaws.{block-small}
 use Rattle.day.specs.declared.Counts.{Counts}
 use Rattle.book.specs.Of.{OfFiles}
