@@ -7,9 +7,12 @@
  * files may be anything. Nothing is kept between calls, nothing is allocated, no file is opened; calls from several threads at once do not
  * disturb each other.
  *
- * The numbers of a verdict are the rule paper's: 0 accepted; 1 to 4 the day file; 5 to 8 the clearing file; 11 to 17 the rules; 18 the room
- * is shorter than the statement; 19, of the look-up alone, no such section. README.md has the table with the place of each. The third number
- * of a place is the field's in its row, from 0, for the numbers 3 and 7, and 0 for every other.
+ * The numbers of a verdict are the rule paper's: 0 accepted; 1 to 4 the day file; 5 to 8 the clearing file; 11 to 17, 20 and 21 the rules;
+ * 18 the room is shorter than the statement; 19, of the look-up alone, no such section. README.md has the table with the place of each. The
+ * third number of a place is the field's in its row, from 0, for the numbers 3 and 7, and 0 for every other.
+ *
+ * A clearing file has a ratio of two bytes for each block, from 0 to 1,000 in thousandths. One with a byte a block is refused with 5 at
+ * section 4.
  */
 #ifndef AYINZHAD_H
 #define AYINZHAD_H
@@ -31,7 +34,7 @@ extern "C" {
  * Accepted (0): place is 0, 0, 0, and the statement stands at the front of the room; the bytes behind it are as they were. Little-endian: 6
  *   (u16); order value, buyer surplus, seller surplus, rent, traded volume, shortfall (i64 each); the number of net positions (u16); the net
  *   positions (i32 each), all periods of zone 0 first. It takes 52 bytes and 4 for each zone and period.
- * Refused (1 to 18): place is where, and the room is as it was. 18 comes last: everything else about the two files holds.
+ * Refused (1 to 18, 20, 21): place is where, and the room is as it was. 18 comes last: everything else about the two files holds.
  * Wrong length (255): `places` is not 3. Neither the place nor the room has changed, and nothing was judged.
  */
 uint8_t ayinzhad_check(const uint8_t *day, size_t day_length, const uint8_t *clearing, size_t clearing_length,
@@ -41,7 +44,7 @@ uint8_t ayinzhad_check(const uint8_t *day, size_t day_length, const uint8_t *cle
  *
  * Accepted (0): totals are order value, buyer surplus, seller surplus, rent, traded volume, shortfall, in this order: money in thousandths
  *   of a euro, volume in tenths of a MW.
- * Refused (1 to 17): the totals are all 0.
+ * Refused (1 to 17, 20, 21): the totals are all 0.
  * Wrong length (255): `totals_length` is not 6. The totals have not changed, and nothing was judged.
  */
 uint8_t ayinzhad_totals(const uint8_t *day, size_t day_length, const uint8_t *clearing, size_t clearing_length,

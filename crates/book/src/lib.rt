@@ -88,7 +88,7 @@ fn narrow(n: usize) -> u32
 fn least_of(n: u32) -> u32
     ensures { λ r. ⌜ r ≡ leastOf n ⌝ }
 {
-    if n == 0 { 1000 } else { n }
+    if n == 0 { market::WHOLE } else { n }
 }
 
 fn step_at(part: &[u8], at: usize) -> Step

@@ -10,6 +10,9 @@ ghost use Rattle.market.specs.Market.{blockVolume, volumeAt};
 ghost use Rattle.market.specs.Rules.{equal, fullOrNone, stepOk, lineOk, ratioOk, wholeOk, blockOk};
 ghost use Rattle.market.specs.Measures.{Small, gain, sold, bought, measured};
 
+// The ratio that is all of a block, in thousandths.
+pub const WHOLE: u32 = 1000;
+
 pub enum Side {
     Sell,
     Buy,
@@ -125,7 +128,7 @@ pub fn whole_ok(ratio: u32, quantity: u32) -> bool
     requires { ⌜ (ratio ≤ mostRatio) × (quantity ≤ mostVolume) ⌝ }
     ensures { λ r. ⌜ r ≡ wholeOk ratio quantity ⌝ }
 {
-    quantity * ratio % 1000 == 0
+    quantity * ratio % WHOLE == 0
 }
 
 pub fn block_ok(ratio: u32, surplus: i64) -> bool
@@ -140,7 +143,7 @@ pub fn block_volume(ratio: u32, quantity: u32) -> u32
     requires { ⌜ (ratio ≤ mostRatio) × (quantity ≤ mostVolume) ⌝ }
     ensures { λ r. ⌜ r ≡ blockVolume ratio quantity ⌝ }
 {
-    quantity * ratio / 1000
+    quantity * ratio / WHOLE
 }
 
 // ---- what a trade counts

@@ -175,7 +175,7 @@ pub fn whole_surplus(day: &[u8], clearing: &[u8], counts: Counts, row: usize) ->
     requires { ⌜ (OfFiles (now day) (now clearing) counts) × (row < counts .blocks) ⌝ }
     ensures { λ r. ⌜ r ≡ sums.wholeSurplus counts (now (day .entry)) (now (clearing .entry)) row ⌝ }
 {
-    over_periods(Measure::Surplus, day, clearing, counts, row, 1000)
+    over_periods(Measure::Surplus, day, clearing, counts, row, market::WHOLE)
 }
 
 // What is left unaccepted of a block, in all its periods: the whole less what is accepted.
