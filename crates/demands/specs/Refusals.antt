@@ -12,7 +12,7 @@ use Rattle.stages.specs.declared.Fault.{Fault}
 use Rattle.stages.specs.declared.Fault.the-variants.{Broken, Clean}
 use Rattle.market.specs.Market.{Day, Choice, Prices}
 use Rattle.market.specs.Rules.{number, order, ruleStage, ruleStages}
-use Rattle.market.specs.RuleLaws.{test-is, breach, rule-holds, lawful-is}
+use Rattle.market.specs.RuleLaws.{test-is, breach, rule-holds, listed, each-rule, lawful-is}
 use Rattle.market.specs.declared.Rule.{Rule}
 use Rattle.market.specs.declared.Rule.the-variants.{Price, Capacity, Quantity, Ratio, Whole, Balance, Step, Line, Block}
 use Rattle.day.specs.declared.Counts.{Counts}
@@ -26,7 +26,7 @@ use Rattle.verdict.specs.Verdict.{dayOf, pricesOf, choiceOf, totalsOf, statemen
 use Rattle.verdict.specs.declared.Outcome.the-variants.{Accepted, Refused}
 use Rattle.demands.specs.Sentences.{turn, FirstBreach, TooShort}
 use Rattle.demands.specs.Laws.{refused-is-broken}
-use Rattle.stages.specs.Lists.{Each, Numbers, In, turnIn, InTurn, broken-++, each-in, each-++, each-so, numbered, placed, in-first, in-second, in-turn-broken}
+use Rattle.stages.specs.Lists.{Each, Numbers, turnIn, InTurn, broken-++, each-in, each-++, each-so, numbered, placed, in-first, in-second, in-turn-broken}
 
 -- ==== the numbers of the files, and their places
 
@@ -127,23 +127,8 @@ module _ (d : Day) (p : Prices) (c : Choice) where
   rule-number Line = inl (omega arith, omega arith)
   rule-number Block = inl (omega arith, omega arith)
 
-  -- every rule is in the list, and there are no other stages in it
-  listed : (rule : Rule) → In (stageOf rule) (ruleStages d p c)
-  listed Price = inl refl
-  listed Capacity = inr (inl refl)
-  listed Quantity = inr (inr (inl refl))
-  listed Ratio = inr (inr (inr (inl refl)))
-  listed Whole = inr (inr (inr (inr (inl refl))))
-  listed Balance = inr (inr (inr (inr (inr (inl refl)))))
-  listed Step = inr (inr (inr (inr (inr (inr (inl refl))))))
-  listed Line = inr (inr (inr (inr (inr (inr (inr (inl refl)))))))
-  listed Block = inr (inr (inr (inr (inr (inr (inr (inr (inl refl))))))))
-
-  each-rule : (P : Stage → Type 0) → ((rule : Rule) → P (stageOf rule)) → Each P (ruleStages d p c)
-  each-rule P h = (h Price, (h Capacity, (h Quantity, (h Ratio, (h Whole, (h Balance, (h Step, (h Line, (h Block, tt)))))))))
-
   rule-numbers : Numbers RuleNumber (ruleStages d p c)
-  rule-numbers = each-rule (λ (s : Stage). RuleNumber (s .number)) rule-number
+  rule-numbers = each-rule d p c (λ (s : Stage). RuleNumber (s .number)) rule-number
 
   in-order : InTurn (turnIn order) 0 (ruleStages d p c)
   in-order =
@@ -162,9 +147,9 @@ module _ (d : Day) (p : Prices) (c : Choice) where
     rule-broken : Means (ruleStages d p c) (Broken (number rule) (place row col))
         ↔ (Breaks (stageOf rule) row col × ((r : Rule) → turn r < turn rule → Holds (stageOf r)))
     rule-broken =
-        let a = in-turn-broken (turnIn order) 0 (ruleStages d p c) in-order (stageOf rule) (listed rule) (place row col) in (
-          λ m. let b = a .0 m in (at-its-place (b .0), λ r. each-in Earlier (ruleStages d p c) (b .1) (listed r)),
-          λ h. a .1 (record { row = row; col = col; number = refl; named = refl; breaks = h .0 }, each-rule Earlier (h .1)),
+        let a = in-turn-broken (turnIn order) 0 (ruleStages d p c) in-order (stageOf rule) (listed d p c rule) (place row col) in (
+          λ m. let b = a .0 m in (at-its-place (b .0), λ r. each-in Earlier (ruleStages d p c) (b .1) (listed d p c r)),
+          λ h. a .1 (record { row = row; col = col; number = refl; named = refl; breaks = h .0 }, each-rule d p c Earlier (h .1)),
         )
 
 -- ==== the verdict

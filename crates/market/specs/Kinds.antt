@@ -15,7 +15,7 @@ use Rattle.limits.specs.Limits.{mostRatio}
 use Rattle.market.specs.Market.{Day, Choice, Prices, blockVolume, stepTrade, blockTrade, ofSells, ofBuys, volumeAt, margin}
 use Rattle.market.specs.Market.{surplusOf, wholeSurplus, rentAt, leftSurplus, missed}
 use Rattle.market.specs.Rules.{CapacityAt, QuantityAt, WholeAt, StepAt, LineAt, BlockAt}
-use Rattle.market.specs.Margins.{sides, gains-is, loses-is, pays-is}
+use Rattle.market.specs.Margins.{sides, gains-is, loses-is, pays-is, blockSurplus, with-left}
 use Rattle.market.specs.Items.{Item, all, over, surplus, surplus-all, paid-at}
 use Rattle.market.specs.declared.Side.{Side}
 use Rattle.market.specs.declared.Side.the-variants.{Sell, Buy}
@@ -115,10 +115,6 @@ line-best d p c other l rule within = sum-mono (d .periods) _ _ λ h n.
 unfoldable pub blockItem : Day → Choice → ℕ → Item
 blockItem d c k = all (d .periods) (λ h. tradeItem (blockTrade (d .block k) h (blockVolume (c .ratio k) (d .quantity k h))))
 
--- the surplus of what is accepted of it
-abbrev pub blockSurplus : Day → Prices → Choice → ℕ → ℤ
-blockSurplus d p c k = surplusOf d p k (λ h. pos (blockVolume (c .ratio k) (d .quantity k h)))
-
 pub block-priced : (d : Day) (p : Prices) (c : Choice) (k : ℕ) → d .block k .zone < d .zones →
     surplus d p (blockItem d c k) ≡ blockSurplus d p c k
 unfolding blockItem surplusOf
@@ -161,11 +157,6 @@ module _ (d : Day) (p : Prices) (c : Choice) (k : ℕ) where
   does-not-lose : BlockAt d p c k → 0 < c .ratio k → pos 0 ≼ wholeSurplus d p k
   unfolding surplusOf
   does-not-lose rule l = pays-is (d .periods) (d .block k .side) (d .block k .limit) (p (d .block k .zone)) (d .quantity k) .1 (rule l)
-
-  -- what is accepted and what is left are the whole
-  with-left : blockSurplus d p c k +ℤ leftSurplus d p c k ≡ wholeSurplus d p k
-  unfolding surplusOf
-  with-left = simp sums (simp linear (omega arith))
 
 -- A block whose whole surplus is not below zero has at most that surplus at any ratio, and what is accepted and what is left make it up. One
 -- whose whole surplus is below zero is rejected, and at no ratio gains.

@@ -1,5 +1,6 @@
--- What is accepted, term by term; and what a unit's margin says: a step gains where it is in the money and loses where it is out of it, and
--- a block's surplus is not below zero just where the block pays. Assumes nothing.
+-- What is accepted, term by term; what a unit's margin says: a step gains where it is in the money and loses where it is out of it, and a
+-- block's surplus is not below zero just where the block pays; and that what is accepted of a block and what is left are the whole.
+-- Assumes nothing.
 use Prim.Native.Nat.{ℕ}
 use native.Mathlib.Omega.{arith}
 use mathlib.Core.Path.{_≡_, refl}
@@ -8,7 +9,7 @@ use lib.IntN.{ℤ, pos, _+ℤ_, _-ℤ_, _*ℤ_}
 use Rattle.whole.specs.Whole.{_≼_, _≺_, sum}
 use Rattle.whole.specs.Ring.{linear}
 use Rattle.whole.specs.Sums.{sums}
-use Rattle.market.specs.Market.{Day, Choice, ofSells, ofBuys, margin, accepted}
+use Rattle.market.specs.Market.{Day, Choice, Prices, blockVolume, ofSells, ofBuys, margin, accepted, surplusOf, wholeSurplus, leftSurplus}
 use Rattle.market.specs.Rules.{InTheMoney, OutOfTheMoney, Pays}
 use Rattle.market.specs.declared.Side.{Side}
 use Rattle.market.specs.declared.Side.the-variants.{Sell, Buy}
@@ -61,3 +62,12 @@ pub pays-is : (n : ℕ) (side : Side) (limit : ℤ) (price : ℕ → ℤ) (quant
     ↔ Pays side (limit *ℤ sum n (λ h. pos (quantity h))) (sum n (λ h. pos (quantity h) *ℤ price h))
 pays-is n Sell limit price quantity = simp sums (simp linear (omega arith))
 pays-is n Buy limit price quantity = simp sums (simp linear (omega arith))
+
+-- the surplus of what is accepted of a block
+abbrev pub blockSurplus : Day → Prices → Choice → ℕ → ℤ
+blockSurplus d p c k = surplusOf d p k (λ h. pos (blockVolume (c .ratio k) (d .quantity k h)))
+
+-- what is accepted and what is left are the whole
+pub with-left : (d : Day) (p : Prices) (c : Choice) (k : ℕ) → blockSurplus d p c k +ℤ leftSurplus d p c k ≡ wholeSurplus d p k
+unfolding surplusOf
+with-left d p c k = simp sums (simp linear (omega arith))

@@ -6,7 +6,7 @@ use native.Mathlib.Omega.{arith}
 use mathlib.Core.Path.{_≡_, refl, sym, _∙_}
 use lib.IntN.{ℤ, pos, negℤ, natAbs, _+ℤ_, _-ℤ_, _*ℤ_}
 use Rattle.whole.specs.Whole.{sum, at}
-use Rattle.whole.specs.Ring.{linear, ring}
+use Rattle.whole.specs.Ring.{given, linear, ring}
 use Rattle.whole.specs.Sums.{sums, sum-cong}
 use Rattle.whole.specs.Size.{abs-neg, abs--, abs-*-≤, at-size, above-zero-size, sum-within}
 use Rattle.limits.specs.Limits.{mostPeriods, mostLines, mostSteps, mostBlocks, mostPrice, mostFlow, mostVolume, mostRatio}
@@ -14,7 +14,7 @@ use Rattle.market.specs.Market.{Day, Choice, Prices, blockVolume, stepTr
 use Rattle.market.specs.Market.{accepted, netPosition, leaving, entering, orderValue, tradedVolume, surplusOf, wholeSurplus, leftSurplus, missed}
 use Rattle.market.specs.Market.{buyerSurplus, sellerSurplus, rentAt}
 use Rattle.market.specs.Range.{Placed, Ranged}
-use Rattle.market.specs.Margins.{accepted-cong, accepted-minus}
+use Rattle.market.specs.Margins.{accepted-cong, accepted-minus, with-left}
 use Rattle.market.specs.Measures.{lineLeaves, gain, sold, bought, bySide, measured, priced, Small, stepMeasured, blockMeasured}
 use Rattle.market.specs.declared.Side.{Side}
 use Rattle.market.specs.declared.Side.the-variants.{Sell, Buy}
@@ -94,8 +94,7 @@ module _ (d : Day) (p : Prices) where
 
   -- the surplus of what is left is that of the whole less that of what is accepted
   pub left-is : (c : Choice) (k : ℕ) → leftSurplus d p c k ≡ wholeSurplus d p k -ℤ blockMeasured d p Surplus k (c .ratio k)
-  unfolding surplusOf
-  left-is c k = rw (part-is k (c .ratio k)) (simp sums (simp linear (omega arith)))
+  left-is c k = rw (part-is k (c .ratio k)) (given (with-left d p c k) (simp linear (omega arith)))
 
 -- ---- how large: one trade
 

@@ -13,6 +13,7 @@ use Rattle.whole.specs.Ring.{given, linear, ring, leZ-true, leZ-false, ≼-refl
 use Rattle.whole.specs.Sums.{sum-nonneg}
 use Rattle.stages.specs.First.{both, apart, leb-is, eqb-is}
 use Rattle.stages.specs.Stage.{Stage, Holds, Means, means, firstFault}
+use Rattle.stages.specs.Lists.{Each, In, each-in}
 use Rattle.stages.specs.declared.Fault.the-variants.{Clean}
 use Rattle.market.specs.Market.{Day, Choice, Prices, surplusOf, rent, shortfall}
 use Rattle.limits.specs.Limits.{mostRatio}
@@ -77,23 +78,24 @@ module _ (d : Day) (p : Prices) (c : Choice) where
     λ h row col l m. test-is rule row col .1 (h row col l m),
   )
 
+  -- every rule is in the list, and there are no other stages in it
+  pub listed : (rule : Rule) → In (ruleStage d p c rule) (ruleStages d p c)
+  listed Price = inl refl
+  listed Capacity = inr (inl refl)
+  listed Quantity = inr (inr (inl refl))
+  listed Ratio = inr (inr (inr (inl refl)))
+  listed Whole = inr (inr (inr (inr (inl refl))))
+  listed Balance = inr (inr (inr (inr (inr (inl refl)))))
+  listed Step = inr (inr (inr (inr (inr (inr (inl refl))))))
+  listed Line = inr (inr (inr (inr (inr (inr (inr (inl refl)))))))
+  listed Block = inr (inr (inr (inr (inr (inr (inr (inr (inl refl))))))))
+
+  pub each-rule : (P : Stage → Type 0) → ((rule : Rule) → P (ruleStage d p c rule)) → Each P (ruleStages d p c)
+  each-rule P h = (h Price, (h Capacity, (h Quantity, (h Ratio, (h Whole, (h Balance, (h Step, (h Line, (h Block, tt)))))))))
+
   -- all stages are clean where each rule holds
   clean-is : Means (ruleStages d p c) Clean ↔ ((rule : Rule) → Holds (ruleStage d p c rule))
-  clean-is = (
-    each,
-    λ h. (h Price, (h Capacity, (h Quantity, (h Ratio, (h Whole, (h Balance, (h Step, (h Line, (h Block, tt))))))))),
-  )
-    where
-      each : Means (ruleStages d p c) Clean → (rule : Rule) → Holds (ruleStage d p c rule)
-      each m Price = m .0
-      each m Capacity = m .1 .0
-      each m Quantity = m .1 .1 .0
-      each m Ratio = m .1 .1 .1 .0
-      each m Whole = m .1 .1 .1 .1 .0
-      each m Balance = m .1 .1 .1 .1 .1 .0
-      each m Step = m .1 .1 .1 .1 .1 .1 .0
-      each m Line = m .1 .1 .1 .1 .1 .1 .1 .0
-      each m Block = m .1 .1 .1 .1 .1 .1 .1 .1 .0
+  clean-is = (λ m rule. each-in Holds (ruleStages d p c) m (listed rule), each-rule Holds)
 
   pub lawful-is : Means (ruleStages d p c) Clean ↔ Lawful d p c
   lawful-is = (λ m. lawful (clean-is .0 m), λ h. clean-is .1 (holds h))

@@ -13,10 +13,10 @@ use Rattle.market.specs.Market.{Day, Choice, Prices, accepted, surplusOf
 use Rattle.market.specs.Rules.{Balanced, Lawful}
 use Rattle.market.specs.Other.{Allowed, SameBlocks}
 use Rattle.market.specs.Range.{Placed}
-use Rattle.market.specs.Margins.{accepted-cong, accepted-plus, both-sides}
+use Rattle.market.specs.Margins.{accepted-cong, accepted-plus, both-sides, blockSurplus}
 use Rattle.market.specs.Items.{Item, _⊕_, all, surplus, surplus-⊕, surplus-all, surplus-is-value}
 use Rattle.market.specs.Kinds.{tradeSurplus, stepItem, stepSurplus, step-priced, step-best, lineItem, lineRent, line-priced, line-best}
-use Rattle.market.specs.Kinds.{blockItem, blockSurplus, block-priced, block-best}
+use Rattle.market.specs.Kinds.{blockItem, block-priced, block-best}
 
 -- ---- all rows together are one item
 
