@@ -134,7 +134,7 @@ no-volume quantity = omega arith
 
 module _ (d : Day) (p : Prices) (c : Choice) (k : ℕ) where
   -- where its volumes are whole, a thousand times its surplus is its ratio of the whole block's
-  in-thousandths : ((h : ℕ) → h < d .periods → WholeAt d c k h) →
+  pub in-thousandths : ((h : ℕ) → h < d .periods → WholeAt d c k h) →
       pos mostRatio *ℤ blockSurplus d p c k ≡ pos (c .ratio k) *ℤ wholeSurplus d p k
   unfolding surplusOf
   in-thousandths whole =

@@ -2,25 +2,26 @@
 use Prim.Native.Nat.{ℕ, zero, suc, _*_, _%_, _<_, _≤_}
 use native.Mathlib.Omega.{arith}
 use mathlib.Core.Path.{_≡_, refl}
-use mathlib.Core.Logic.{_↔_, _⊎_, inl, inr, Iff·rfl}
+use mathlib.Core.Logic.{_↔_, _⊎_, inl, inr, Iff·rfl, Iff·symm, Iff·trans}
 use mathlib.Core.Bool.{Bool, true, false, _||_}
 use mathlib.Core.List.{List, [], _∷_}
 use lib.Dec.{eqb}
 use borrow.Author.Tests.{ne-eqb}
-use lib.IntN.{ℤ, pos, negℤ, _-ℤ_, _*ℤ_}
-use Rattle.whole.specs.Whole.{_≼_, _≺_}
-use Rattle.whole.specs.Ring.{given, linear, ring, leZ-true, leZ-false, ≼-refl, ≼-antisym, ≼-or-<, *-nonneg, above-zero-nonneg}
+use lib.IntN.{ℤ, pos, negℤ, _-ℤ_, _*ℤ_, *ℤ-zero}
+use Rattle.whole.specs.Whole.{_≼_, _≺_, sum}
+use Rattle.whole.specs.Ring.{given, linear, ring, leZ-true, leZ-false, ≼-refl, ≼-antisym, ≼-or-<, *-nonneg, *-cancel, above-zero-nonneg}
 use Rattle.whole.specs.Sums.{sum-nonneg}
 use Rattle.stages.specs.First.{both, apart, leb-is, eqb-is}
 use Rattle.stages.specs.Stage.{Stage, Holds, Means, means, firstFault}
 use Rattle.stages.specs.Lists.{Each, In, each-in}
 use Rattle.stages.specs.declared.Fault.the-variants.{Clean}
-use Rattle.market.specs.Market.{Day, Choice, Prices, surplusOf, rent, shortfall}
+use Rattle.market.specs.Market.{Day, Choice, Prices, blockVolume, surplusOf, wholeSurplus, rent, shortfall}
 use Rattle.limits.specs.Limits.{mostRatio}
 use Rattle.market.specs.Other.{Allowed}
 use Rattle.market.specs.Range.{Placed}
-use Rattle.market.specs.Margins.{pays-is}
-use Rattle.market.specs.Rules.{InTheMoney, OutOfTheMoney, Lawful, equal, stepOk, lineOk, ratioOk, wholeOk, blockOk, test, Obeys}
+use Rattle.market.specs.Margins.{pays-is, blockSurplus}
+use Rattle.market.specs.Kinds.{in-thousandths}
+use Rattle.market.specs.Rules.{InTheMoney, OutOfTheMoney, Pays, WholeAt, Lawful, equal, stepOk, lineOk, ratioOk, wholeOk, blockOk, test, Obeys}
 use Rattle.market.specs.Rules.{rows, columns, ruleStage, ruleStages}
 use Rattle.market.specs.declared.Side.{Side}
 use Rattle.market.specs.declared.Side.the-variants.{Sell, Buy}
@@ -166,6 +167,28 @@ rejected-never-refused least quantity surplus = (refl, (eqb-is (quantity * 0 % m
 -- a block that is accepted whole has whole volumes
 pub whole-is-whole : (quantity : ℕ) → wholeOk mostRatio quantity ≡ true
 whole-is-whole quantity = eqb-is (quantity * mostRatio % mostRatio) 0 .1 (omega arith)
+
+-- A block is accepted at a ratio that makes its volumes whole. What is accepted of it pays just where the whole block does, so that it does
+-- not matter which of the two the block rule tests.
+module _ (d : Day) (p : Prices) (c : Choice) (k : ℕ) (accepted : 0 < c .ratio k) (whole : (h : ℕ) → h < d .periods → WholeAt d c k h) where
+  gains-with-the-whole : (pos 0 ≼ blockSurplus d p c k) ↔ (pos 0 ≼ wholeSurplus d p k)
+  gains-with-the-whole =
+      let ratio = pos (c .ratio k) in
+      let e = in-thousandths d p c k whole in (
+        λ s. *-cancel ratio (pos 0) (wholeSurplus d p k) (given accepted (simp linear (omega arith)))
+            (rw (*ℤ-zero, ← e) (*-nonneg (pos mostRatio) (blockSurplus d p c k) (simp linear (omega arith)) s)),
+        λ s. *-cancel (pos mostRatio) (pos 0) (blockSurplus d p c k) (simp linear (omega arith))
+            (rw (*ℤ-zero, e) (*-nonneg ratio (wholeSurplus d p k) (simp linear (omega arith)) s)),
+      )
+
+  pub part-pays : let b = d .block k in let volume : ℕ → ℕ = λ h. blockVolume (c .ratio k) (d .quantity k h) in
+      Pays (b .side) (b .limit *ℤ sum (d .periods) (λ h. pos (volume h))) (sum (d .periods) (λ h. pos (volume h) *ℤ p (b .zone) h))
+      ↔ Pays (b .side) (b .limit *ℤ sum (d .periods) (λ h. pos (d .quantity k h))) (sum (d .periods) (λ h. pos (d .quantity k h) *ℤ p (b .zone) h))
+  unfolding surplusOf
+  part-pays =
+      let b = d .block k in
+      Iff·trans (Iff·symm (pays-is (d .periods) (b .side) (b .limit) (p (b .zone)) (λ h. blockVolume (c .ratio k) (d .quantity k h))))
+      (Iff·trans gains-with-the-whole (pays-is (d .periods) (b .side) (b .limit) (p (b .zone)) (d .quantity k)))
 
 -- flow runs towards the dearer end, so it earns
 earns : (flow forward back from to : ℤ) → pos 0 ≼ forward → pos 0 ≼ back → (from ≺ to → flow ≡ forward) → (to ≺ from → flow ≡ negℤ back) →
