@@ -1,0 +1,87 @@
+-- A table that has a number for each zone and period, all periods of zone 0 first, in 200 cells; and what adding a number at one place
+-- makes of it. Assumes nothing.
+use Prim.Native.Nat.{ℕ, _+_, _*_, _/_, _%_, _≤_, _<_}
+use native.Mathlib.Nat.{mul-le-mul, div-lt-iff-lt-mul, mod-lt, mod-add-div}
+use native.Mathlib.Decide.{ℕ-discrete}
+use native.Mathlib.Omega.{arith}
+use mathlib.Core.Path.{_≡_, refl, sym, ap, _∙_}
+use mathlib.Core.List.{List}
+use lib.Arith.{digits-div, digits-mod}
+use lib.IntN.{ℤ, pos, _+ℤ_, +ℤ-idr}
+use lib.ListN.{length, getD, set, replicate, length-set, length-replicate, getD-replicate}
+use lib.Seq.{getD-set-same, getD-set-other}
+use Rattle.whole.specs.Whole.{at}
+use Rattle.whole.specs.Sums.{at-same, at-other}
+
+-- x more in the cell k
+abbrev pub added : List ℤ → ℕ → ℤ → List ℤ
+added table k x = set table k (getD table k (pos 0) +ℤ x)
+
+pub record Tabled (zones periods : ℕ) (f : ℕ → ℕ → ℤ) (table : List ℤ) : Type 0 where
+  pub long : length table ≡ 200
+  pub each : (zone period : ℕ) → zone < zones → period < periods → getD table (zone * periods + period) (pos 0) ≡ f zone period
+
+-- ---- one cell
+
+-- what is read of a table at any place, the one that was added to or another
+added-at : (table : List ℤ) (k : ℕ) (x : ℤ) (c : ℕ) → k < length table → getD (added table k x) c (pos 0) ≡ getD table c (pos 0) +ℤ at k x c
+added-at table k x c l = by (ℕ-discrete c k)
+  where
+    by : Dec (c ≡ k) → getD (added table k x) c (pos 0) ≡ getD table c (pos 0) +ℤ at k x c
+    by (yes e) = rw (e, getD-set-same table k _ (pos 0) l, at-same)
+    by (no e) = rw (getD-set-other table k c _ (pos 0) e, at-other k x c e, +ℤ-idr)
+
+-- a cell is that of one zone and one period
+one-cell : {periods zone period z h : ℕ} → period < periods → h < periods → z * periods + h ≡ zone * periods + period → (z ≡ zone) × (h ≡ period)
+one-cell {periods} {zone} {period} {z} {h} p q e = (
+  sym (digits-div z q) ∙ ap (λ (n : ℕ). n / periods) e ∙ digits-div zone p,
+  sym (digits-mod z q) ∙ ap (λ (n : ℕ). n % periods) e ∙ digits-mod zone p,
+)
+
+at-cell : (periods zone period : ℕ) (x : ℤ) (z h : ℕ) → period < periods → h < periods →
+    at (zone * periods + period) x (z * periods + h) ≡ at zone (at period x h) z
+at-cell periods zone period x z h p q = by (ℕ-discrete z zone) (ℕ-discrete h period)
+  where
+    by : Dec (z ≡ zone) → Dec (h ≡ period) → at (zone * periods + period) x (z * periods + h) ≡ at zone (at period x h) z
+    by (yes e) (yes f) = rw (e, f, at-same, at-same, at-same)
+    by (yes e) (no f) = rw (at-other (zone * periods + period) x (z * periods + h) (λ g. f (one-cell p q g .1)), e, at-same, at-other period x h f)
+    by (no e) _ = rw (at-other (zone * periods + period) x (z * periods + h) (λ g. e (one-cell p q g .0)), at-other zone (at period x h) z e)
+
+-- ---- all cells
+
+module _ {zones periods : ℕ} (small : zones * periods ≤ 200) where
+  pub cell-below : {zone period : ℕ} → zone < zones → period < periods → zone * periods + period < 200
+  cell-below {zone} {period} l k =
+      let h : (zone + 1) * periods ≤ zones * periods = mul-le-mul {n₂ = zones} {m₂ = periods} (omega arith) (omega arith) in
+      omega arith
+
+  -- nothing yet
+  pub none-tabled : Tabled zones periods (λ _ _. pos 0) (replicate 200 (pos 0))
+  none-tabled = record {
+    long = length-replicate 200 (pos 0);
+    each = λ zone period l k. getD-replicate 200 (zone * periods + period) (pos 0) (pos 0) (cell-below l k);
+  }
+
+  module _ {f : ℕ → ℕ → ℤ} {table : List ℤ} (t : Tabled zones periods f table) where
+    -- x more at one zone and period
+    pub more-tabled : {zone period : ℕ} → zone < zones → period < periods → (x : ℤ) →
+        Tabled zones periods (λ z h. f z h +ℤ at zone (at period x h) z) (added table (zone * periods + period) x)
+    more-tabled {zone} {period} l k x = record {
+      long = length-set table (zone * periods + period) _ ∙ t .long;
+      each = λ z h a b. rw (
+        added-at table (zone * periods + period) x (z * periods + h) (rw (t .long) (cell-below l k)),
+        t .each z h a b,
+        at-cell periods zone period x z h k b,
+      );
+    }
+
+    pub same-tabled : {g : ℕ → ℕ → ℤ} → ((zone period : ℕ) → zone < zones → period < periods → f zone period ≡ g zone period) → Tabled zones periods g table
+    same-tabled e = record { long = t .long; each = λ z h a b. t .each z h a b ∙ e z h a b }
+
+    -- the cells one after the other
+    pub row-tabled : 1 ≤ periods → {k : ℕ} → k < zones * periods → getD table k (pos 0) ≡ f (k / periods) (k % periods)
+    row-tabled least {k} l =
+        let zone = k / periods in
+        let period = k % periods in
+        let same : zone * periods + period ≡ k = omega (arith, mod-add-div k periods) in
+        rw same at (t .each zone period (div-lt-iff-lt-mul least .1 l) (mod-lt k least))
