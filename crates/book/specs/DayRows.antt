@@ -1,4 +1,4 @@
--- The rows of a day file that reads without fault lie within their parts. Assumes nothing.
+-- The rows of a day file whose frame is without fault lie within their parts. Assumes nothing.
 use Prim.Native.Nat.{ℕ, _+_, _*_, _<_, _≤_}
 use native.Mathlib.Omega.{arith}
 use mathlib.Core.Path.{_≡_, subst}
@@ -9,14 +9,15 @@ use Rattle.rows.specs.Rows.{rowStart}
 use Rattle.rows.specs.declared.Kind.the-variants.{Periods, Lines, Steps, Blocks}
 use Rattle.day.specs.declared.Counts.{Counts}
 use Rattle.day.specs.Day.{linesPart, stepsPart, blocksPart}
-use Rattle.day.specs.Good.{InLimits, in-limits}
+use Rattle.day.specs.Good.{InLimits}
+use Rattle.day.specs.Frame.{framed-limits}
 use Rattle.parts.specs.Of.{OfDay, periods-sized, lines-sized, steps-sized, blocks-sized}
 use Rattle.book.specs.Of.{row-within}
 
 module _ {day : List ℕ} {c : Counts} (o : OfDay day c) where
   -- the counts in hand are within their limits
   pub day-limits : InLimits c
-  day-limits = subst InLimits (o .counted) (in-limits (o .good))
+  day-limits = subst InLimits (o .counted) (framed-limits (o .framed))
 
   -- what `row_start` asks of a line and of a block
   pub line-starts : {i : ℕ} → i < c .lines → (c .periods ≤ mostPeriods) × (i < 65536)

@@ -1,6 +1,6 @@
 -- What is meant: the market's day that a day file says, the prices and the choice that a clearing file says.
 pub mod Book
--- Two files that read without fault, with their counts in hand.
+-- Two files with the counts in hand: framed, and read without fault.
 pub mod Of
 -- Where the rows of a day file lie.
 pub mod DayRows

@@ -14,7 +14,6 @@ use Rattle.day.specs.declared.Counts.{Counts}
 use Rattle.day.specs.Day.{counts}
 use Rattle.day.specs.Good.{GoodDay, in-limits, good-line, good-step, good-block}
 use Rattle.clearing.specs.Good.{good-price, good-flow, good-volume, good-ratio}
-use Rattle.parts.specs.Of.{OfDay}
 use Rattle.book.specs.Book.{dayOf, lineOf, forwardOf, backOf, stepOf, blockOf, quantityOf, pricesOf, flowOf, volumeOf, ratioOf, choiceOf}
 use Rattle.book.specs.Of.{OfFiles, cell-below}
 
@@ -51,15 +50,15 @@ placed-own g = record {
   block-quantity = λ k h b. good-block g b .quantity-is h;
 }
 
-pub placed : {day : List ℕ} {c : Counts} → OfDay day c → Placed (dayOf c day)
-placed {day} o = subst (λ (k : Counts). Placed (dayOf k day)) (o .counted) (placed-own (o .good))
+pub placed : {day clearing : List ℕ} {c : Counts} → OfFiles day clearing c → Placed (dayOf c day)
+placed {day} o = subst (λ (k : Counts). Placed (dayOf k day)) (o .of-day .counted) (placed-own (o .good-day))
 
 -- ---- the prices and the choice
 
 pub ranged : {day clearing : List ℕ} {c : Counts} → OfFiles day clearing c → Ranged (dayOf c day) (pricesOf c clearing) (choiceOf c clearing)
 unfolding pricesOf flowOf volumeOf ratioOf
 ranged o =
-    let g = o .of-clearing .cleared in
+    let g = o .good-clearing in
     record {
       price = λ z h a b. price-size (good-price g (cell-below a b));
       flow = λ l h a b. flow-size (good-flow g (cell-below a b));

@@ -4,5 +4,7 @@ pub mod Clearing
 pub mod Chain
 -- What two files that read without fault guarantee, and what the reader's two answers mean.
 pub mod Good
+-- Its frame alone: the counts that are asked, room for all rows, nothing after them.
+pub mod Frame
 -- Which row a refusal 7 names, as a sentence.
 pub mod Fields

@@ -4,5 +4,7 @@ pub mod Day
 pub mod Chain
 -- What a day file that reads without fault guarantees, and what the reader's two answers mean.
 pub mod Good
+-- Its frame alone: counts, limits, room for all rows, nothing after them.
+pub mod Frame
 -- Which field a refusal 3 names, as a sentence.
 pub mod Fields

@@ -12,6 +12,7 @@ use Rattle.day.specs.declared.DayFile.{DayFile}
 use Rattle.day.specs.declared.DayFile.the-variants.{Good, Bad}
 use Rattle.day.specs.Day.{counts, faultOf}
 use Rattle.day.specs.Good.{day-clean}
+use Rattle.day.specs.Frame.{framed-day}
 use Rattle.parts.specs.Of.{OfDay}
 use Rattle.lookup.specs.LookUp.{rowsOf, rowsAt, lookUpStages, lookUp, lookUpAt}
 
@@ -33,7 +34,7 @@ module _ (section : ℕ) (day : List ℕ) where
   pub of-day : {c : Counts} → dayFileFor section day ≡ Good c → OfDay day c
   of-day {c} e =
       let same : Good (counts day) ≡ Good c = rw (clean-for e) at e in
-      record { good = day-clean day .0 (means (lookUpStages section day) Clean .0 (clean-for e) .1); counted = cc }
+      record { framed = framed-day (day-clean day .0 (means (lookUpStages section day) Clean .0 (clean-for e) .1)); counted = cc }
 
   -- the part, and where it stands in the file
   pub refused-part : {k : ℕ} {p : Place} → dayFileFor section day ≡ Bad k p → ([] ≡ lookUp section day) × (lookUpAt section day ≡ 0)

@@ -1,4 +1,4 @@
--- A day file that reads without fault, with its counts in hand, and what is then known of each of its sections. Assumes nothing.
+-- A day file whose frame is without fault, with its counts in hand, and what is then known of each of its sections. Assumes nothing.
 use Prim.Native.Nat.{ℕ, _+_, _*_, _≤_}
 use native.Mathlib.Nat.{add-assoc}
 use native.Mathlib.Omega.{arith}
@@ -10,10 +10,10 @@ use Rattle.limits.specs.Limits.{mostPeriods}
 use Rattle.rows.specs.Rows.{rowSize}
 use Rattle.rows.specs.declared.Kind.{Kind}
 use Rattle.rows.specs.declared.Kind.the-variants.{Periods, Zones, Lines, Steps, Blocks}
-use Rattle.reader.specs.Reader.{GoodRows}
+use Rattle.reader.specs.Reader.{HeadRows}
 use Rattle.day.specs.declared.Counts.{Counts}
 use Rattle.day.specs.Day.{periods, zones, zonesPart, linesPart, stepsPart, blocksPart, counts}
-use Rattle.day.specs.Good.{GoodDay}
+use Rattle.day.specs.Frame.{FramedDay}
 
 -- ---- where the sections of a day file start
 
@@ -32,7 +32,7 @@ blocksAt day = 2 + rowSize Steps (periods day) * count (stepsPart day) + stepsAt
 -- ---- the counts in hand
 
 pub record OfDay (day : List ℕ) (c : Counts) : Type 0 where
-  pub good : GoodDay day
+  pub framed : FramedDay day
   pub counted : counts day ≡ c
 
 -- a section's n rows lie within the part that starts with its count
@@ -40,28 +40,28 @@ abbrev pub Sized : Kind → ℕ → List ℕ → ℕ → Type 0
 Sized kind periods part n = (periods ≤ mostPeriods) × ((count part ≡ n) × (2 + rowSize kind periods * n ≤ length part))
 
 module _ {day : List ℕ} {c : Counts} (o : OfDay day c) where
-  -- a section, by the good rows of the whole file and the count in hand
-  sized : (kind : Kind) (least most zones : ℕ) (field : Counts → ℕ) (whole : List ℕ) → GoodRows kind least most (periods day) zones whole →
+  -- a section, by its head in the whole file and the count in hand
+  sized : (kind : Kind) (least most : ℕ) (field : Counts → ℕ) (whole : List ℕ) → HeadRows kind least most (periods day) whole →
       count whole ≡ field (counts day) → {part : List ℕ} → part ≡ whole → Sized kind (c .periods) part (field c)
-  sized kind least most zones field whole g e {part} q =
+  sized kind least most field whole g e {part} q =
       rw q (subst (λ (k : Counts). Sized kind (k .periods) whole (field k)) (o .counted)
-      (o .good .periods-good .at-most, (e, subst (λ (n : ℕ). 2 + rowSize kind (periods day) * n ≤ length whole) e (g .room))))
+      (o .framed .periods-head .at-most, (e, subst (λ (n : ℕ). 2 + rowSize kind (periods day) * n ≤ length whole) e (g .room))))
 
   pub periods-sized : Sized Periods 0 day (c .periods)
   periods-sized =
-      subst (λ (k : Counts). Sized Periods 0 day (k .periods)) (o .counted) (omega arith, (refl, o .good .periods-good .room))
+      subst (λ (k : Counts). Sized Periods 0 day (k .periods)) (o .counted) (omega arith, (refl, o .framed .periods-head .room))
 
   pub zones-sized : {part : List ℕ} → part ≡ zonesPart day → Sized Zones (c .periods) part (c .zones)
-  zones-sized = sized Zones _ _ _ (λ k. k .zones) (zonesPart day) (o .good .zones-good) refl
+  zones-sized = sized Zones _ _ (λ k. k .zones) (zonesPart day) (o .framed .zones-head) refl
 
   pub lines-sized : {part : List ℕ} → part ≡ linesPart day → Sized Lines (c .periods) part (c .lines)
-  lines-sized = sized Lines _ _ _ (λ k. k .lines) (linesPart day) (o .good .lines-good) refl
+  lines-sized = sized Lines _ _ (λ k. k .lines) (linesPart day) (o .framed .lines-head) refl
 
   pub steps-sized : {part : List ℕ} → part ≡ stepsPart day → Sized Steps (c .periods) part (c .steps)
-  steps-sized = sized Steps _ _ _ (λ k. k .steps) (stepsPart day) (o .good .steps-good) refl
+  steps-sized = sized Steps _ _ (λ k. k .steps) (stepsPart day) (o .framed .steps-head) refl
 
   pub blocks-sized : {part : List ℕ} → part ≡ blocksPart day → Sized Blocks (c .periods) part (c .blocks)
-  blocks-sized = sized Blocks _ _ _ (λ k. k .blocks) (blocksPart day) (o .good .blocks-good) refl
+  blocks-sized = sized Blocks _ _ (λ k. k .blocks) (blocksPart day) (o .framed .blocks-head) refl
 
   -- what comes after a section, and its rows, by the periods in hand
   pub after-same : (kind : Kind) {part whole : List ℕ} → part ≡ whole → after (rowSize kind (c .periods)) part ≡ after (rowSize kind (periods day)) whole

@@ -5,7 +5,7 @@ use mathlib.Core.Logic.{_⊎_}
 use mathlib.Core.List.{List}
 use Rattle.stages.specs.Stage.{Stage}
 use Rattle.sections.specs.Section.{Numbers, section}
-use Rattle.sections.specs.Good.{GoodSection, FirstBad}
+use Rattle.sections.specs.Good.{GoodSection, Head, FirstBad}
 use Rattle.sections.specs.Answer.{readingOf, sectionOf}
 use Rattle.sections.specs.declared.Section.{Section}
 use Rattle.sections.specs.declared.Reading.{Reading}
@@ -20,6 +20,10 @@ fileSection numbers number kind least most periods zones part =
 -- it reads without fault
 abbrev pub GoodRows : Kind → ℕ → ℕ → ℕ → ℕ → List ℕ → Type 0
 GoodRows kind least most periods zones part = GoodSection least most (rowSize kind periods) (fieldCount kind periods) (fieldOk kind periods zones part) part
+
+-- its head alone is without fault
+abbrev pub HeadRows : Kind → ℕ → ℕ → ℕ → List ℕ → Type 0
+HeadRows kind least most periods part = Head least most (rowSize kind periods) part
 
 -- the field is the first that fails its test, in the first row that has one
 abbrev pub BadField : Kind → ℕ → ℕ → ℕ → ℕ → List ℕ → ℕ → ℕ → Type 0

@@ -23,11 +23,18 @@ pub record GoodSection (least most size fields : ℕ) (ok : ℕ → ℕ → Bool
   pub rows : (i : ℕ) → i < count part → every fields (ok i) ≡ true
 
 -- the same of its count, its limits and the room alone
-record Head (least most size : ℕ) (part : List ℕ) : Type 0 where
-  counted : 2 ≤ length part
-  at-least : least ≤ count part
-  at-most : count part ≤ most
-  room : 2 + size * count part ≤ length part
+pub record Head (least most size : ℕ) (part : List ℕ) : Type 0 where
+  pub counted : 2 ≤ length part
+  pub at-least : least ≤ count part
+  pub at-most : count part ≤ most
+  pub room : 2 + size * count part ≤ length part
+
+module _ {least most size fields : ℕ} {ok : ℕ → ℕ → Bool} {part : List ℕ} where
+  pub head : GoodSection least most size fields ok part → Head least most size part
+  head g = record { counted = g .counted; at-least = g .at-least; at-most = g .at-most; room = g .room }
+
+  pub with-rows : Head least most size part → ((i : ℕ) → i < count part → every fields (ok i) ≡ true) → GoodSection least most size fields ok part
+  with-rows h r = record { counted = h .counted; at-least = h .at-least; at-most = h .at-most; room = h .room; rows = r }
 
 -- its head is good, and the field is the first that fails its test in the first row that has one
 pub record FirstBad (least most size fields : ℕ) (ok : ℕ → ℕ → Bool) (part : List ℕ) (row field : ℕ) : Type 0 where
@@ -81,17 +88,8 @@ module _ (numbers : Numbers) (number least most size fields : ℕ) (ok : ℕ →
   -- clean
   pub section-clean : Means (section numbers number least most size fields ok part) Clean ↔ GoodSection least most size fields ok part
   section-clean = (
-    λ m. let h = head-of (m .0) (m .1 .0) (m .1 .1 .0) in
-        record {
-          counted = h .counted;
-          at-least = h .at-least;
-          at-most = h .at-most;
-          room = h .room;
-          rows = λ i l. every-is fields (ok i) .1 (λ f k. m .1 .1 .1 .0 i f l k);
-        },
-    λ g. of-head
-        (record { counted = g .counted; at-least = g .at-least; at-most = g .at-most; room = g .room })
-        (λ i f l k. every-is fields (ok i) .0 (g .rows i l) f k, tt),
+    λ m. with-rows (head-of (m .0) (m .1 .0) (m .1 .1 .0)) (λ i l. every-is fields (ok i) .1 (λ f k. m .1 .1 .1 .0 i f l k)),
+    λ g. of-head (head g) (λ i f l k. every-is fields (ok i) .0 (g .rows i l) f k, tt),
   )
 
   -- broken with the number of a bad row
