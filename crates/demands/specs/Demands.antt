@@ -108,7 +108,7 @@ module _ {day clearing before after : List ℕ} {t : Totals} (c : Checked day cl
   both-read = of-files (passed .0 .day-reads) (passed .0 .clearing-reads)
 
   in-place : Placed (dayOf day)
-  in-place = placed (both-read .of-day)
+  in-place = placed both-read
 
   lawful : Lawful (dayOf day) (pricesOf day clearing) (choiceOf day clearing)
   lawful = passed .0 .rules-hold

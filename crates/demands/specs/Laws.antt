@@ -117,17 +117,17 @@ module _ {day clearing : List ℕ} (o : OfFiles day clearing (counts day)) where
   accepted-fits m is =
       let steps = sum (d .steps) (stepMeasured d p c m) in
       let blocks = sum (d .blocks) (λ k. blockMeasured d p m k (c .ratio k)) in
-      let s = steps-size d p c (placed (o .of-day)) (ranged o) m (d .steps) (le-refl (d .steps)) in
-      let b = blocks-size d p c (placed (o .of-day)) (ranged o) m (d .blocks) (le-refl (d .blocks)) in
+      let s = steps-size d p c (placed o) (ranged o) m (d .steps) (le-refl (d .steps)) in
+      let b = blocks-size d p c (placed o) (ranged o) m (d .blocks) (le-refl (d .blocks)) in
       subst (SFits w64) (sym (accepted-is d p c m) ∙ is) (fits-i64 (steps +ℤ blocks) (omega (arith, abs-+ steps blocks, s, b)))
 
   rent-fits : SFits w64 (rent d p c)
   unfolding rent
-  rent-fits = fits-i64 _ (omega (arith, rents-size d p c (placed (o .of-day)) (ranged o) (d .lines) (le-refl (d .lines))))
+  rent-fits = fits-i64 _ (omega (arith, rents-size d p c (placed o) (ranged o) (d .lines) (le-refl (d .lines))))
 
   shortfall-fits : SFits w64 (shortfall d p c)
   unfolding shortfall
-  shortfall-fits = fits-i64 _ (omega (arith, missed-size d p c (placed (o .of-day)) (ranged o) (d .blocks) (le-refl (d .blocks))))
+  shortfall-fits = fits-i64 _ (omega (arith, missed-size d p c (placed o) (ranged o) (d .blocks) (le-refl (d .blocks))))
 
   -- in a lawful clearing a net position is what the lines carry away, which fits an i32
   net-fits : Lawful d p c → (k : ℕ) → k < n → SFits w32 (net k)

@@ -58,7 +58,7 @@ module _ {day clearing : List ℕ} {c : Counts} (o : OfFiles day clearing c) (k 
   flow-row-fits =
       let h = c .periods in
       let below = row-period k (o .of-clearing .limits .periods-least) in
-      let size = flows-size _ _ _ (placed (o .of-day)) (ranged o) (c .lines) (k / h) (k % h) (le-refl (c .lines)) below in
+      let size = flows-size _ _ _ (placed o) (ranged o) (c .lines) (k / h) (k % h) (le-refl (c .lines)) below in
       let is = net-flow-is (dayOf c day) (choiceOf c clearing) (k / h) (k % h) in
       fits-i32 (flowRow c day clearing k) (rw (← is) (omega (arith, size)))
 

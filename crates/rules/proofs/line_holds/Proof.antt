@@ -18,13 +18,13 @@ least-flow-of-requires c κs = search needs
 price-of-requires : tie.Need-price-of-requires
 price-of-requires c κs =
     let s = c .before .before .before .before .before in
-    rw (c .before .before .line-of .ensures) (s .pre .0 .of-clearing, (placed (s .pre .0 .of-day) .line-from _ (s .pre .1 .0), s .pre .1 .1))
+    rw (c .before .before .line-of .ensures) (s .pre .0 .of-clearing, (placed (s .pre .0) .line-from _ (s .pre .1 .0), s .pre .1 .1))
 
 price-of-requires-2 : tie.Need-price-of-requires-2
 price-of-requires-2 c κs =
     let s = c .before .before .before .before .before .before in
     rw (c .before .before .before .line-of .ensures)
-    (s .pre .0 .of-clearing, (placed (s .pre .0 .of-day) .line-to _ (s .pre .1 .0), s .pre .1 .1))
+    (s .pre .0 .of-clearing, (placed (s .pre .0) .line-to _ (s .pre .1 .0), s .pre .1 .1))
 
 flow-of-requires : tie.Need-flow-of-requires
 flow-of-requires c κs = search needs

@@ -14,7 +14,7 @@ step-of-requires c κs = search needs
 price-of-requires : tie.Need-price-of-requires
 price-of-requires c κs =
     let s = c .before .before .before in
-    let day = placed (s .pre .0 .of-day) in
+    let day = placed (s .pre .0) in
     rw (c .step-of .ensures) (s .pre .0 .of-clearing, (day .step-zone _ (s .pre .1), day .step-period _ (s .pre .1)))
 
 volume-of-requires : tie.Need-volume-of-requires

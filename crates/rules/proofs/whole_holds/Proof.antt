@@ -15,7 +15,7 @@ whole-ok-requires : tie.Need-whole-ok-requires
 whole-ok-requires c κs =
     let s = c .before .before .before .before in (
       rw (c .before .ratio-of .ensures) (ranged (s .pre .0) .ratio _ (s .pre .1 .0)),
-      rw (c .quantity-of .ensures) (placed (s .pre .0 .of-day) .block-quantity _ _ (s .pre .1 .0) (s .pre .1 .1)),
+      rw (c .quantity-of .ensures) (placed (s .pre .0) .block-quantity _ _ (s .pre .1 .0) (s .pre .1 .1)),
     )
 
 returns : tie.Need-returns

@@ -25,7 +25,7 @@ everything-fits : {day clearing : List ℕ} {c : Counts} → OfFiles day clearin
 everything-fits {day} {clearing} {c} o m =
     let steps = sum (c .steps) (oneStep c day clearing m) in
     let blocks = sum (c .blocks) (oneBlock c day clearing m) in
-    let p = placed (o .of-day) in
+    let p = placed o in
     rw (accepted-is (dayOf c day) (pricesOf c clearing) (choiceOf c clearing) m)
     (fits-i64 _ (omega (
       arith,

@@ -34,7 +34,7 @@ left c =
 less-requires : tie.Need-less-requires
 less-requires c κs =
     let s = c .before .before .before .before in
-    let size = left-size _ _ _ (placed (s .pre .0 .of-day)) (ranged (s .pre .0)) (s .args .row) (s .pre .1) in
+    let size = left-size _ _ _ (placed (s .pre .0)) (ranged (s .pre .0)) (s .args .row) (s .pre .1) in
     subst (SFits w64) (sym (left c)) (fits-i64 _ (omega (arith, size)))
 
 returns : tie.Need-returns

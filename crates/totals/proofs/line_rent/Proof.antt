@@ -25,7 +25,7 @@ add-requires c κs =
     let s = c .before .before .before .before .before in
     let o = s .pre .0 in
     more-fits (c .before .before .loop .inv) (c .before .loop-test .taken) (c .rent-at .ok) (c .rent-at .ensures)
-    (λ n l. rent-part-size _ _ _ (placed (o .of-day)) (ranged o) n (s .args .line) l (s .pre .1)) (omega arith)
+    (λ n l. rent-part-size _ _ _ (placed o) (ranged o) n (s .args .line) l (s .pre .1)) (omega arith)
 
 add-period : tie.Need-add-period Inv-loop μ-loop
 add-period c = omega arith

@@ -28,7 +28,7 @@ add-requires c κs =
     let s = c .before .before .before .before .before in
     let o = s .pre .0 in
     more-fits (c .before .before .loop .inv) (c .before .loop-test .taken) (c .line-leaves .ok) (c .line-leaves .ensures)
-    (λ n l. flows-size _ _ _ (placed (o .of-day)) (ranged o) n (s .args .zone) (s .args .period) l (s .pre .1)) (omega arith)
+    (λ n l. flows-size _ _ _ (placed o) (ranged o) n (s .args .zone) (s .args .period) l (s .pre .1)) (omega arith)
 
 add-line : tie.Need-add-line Inv-loop μ-loop
 add-line c = omega arith

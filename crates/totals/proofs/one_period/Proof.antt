@@ -18,9 +18,9 @@ block-priceable : {day clearing : List ℕ} {c : Counts} → OfFiles day clearin
     {ratio : ℕ} → ratio ≤ mostRatio → Priceable clearing c (blockTrade c day clearing k period ratio)
 block-priceable o {k} {period} l h {ratio} r = record {
   of-clearing = o .of-clearing;
-  zone-is = placed (o .of-day) .block-zone k l;
+  zone-is = placed o .block-zone k l;
   period-is = h;
-  small = block-small _ _ _ (placed (o .of-day)) (ranged o) k period ratio l h r;
+  small = block-small _ _ _ (placed o) (ranged o) k period ratio l h r;
 }
 
 block-of-requires : tie.Need-block-of-requires
@@ -32,7 +32,7 @@ quantity-of-requires c κs = search needs
 block-volume-requires : tie.Need-block-volume-requires
 block-volume-requires c κs =
     let s = c .before .before .before .before in
-    (s .pre .1 .1 .1, rw (c .quantity-of .ensures) (placed (s .pre .0 .of-day) .block-quantity _ _ (s .pre .1 .0) (s .pre .1 .1 .0)))
+    (s .pre .1 .1 .1, rw (c .quantity-of .ensures) (placed (s .pre .0) .block-quantity _ _ (s .pre .1 .0) (s .pre .1 .1 .0)))
 
 block-trade-requires : tie.Need-block-trade-requires
 block-trade-requires c κs = search needs

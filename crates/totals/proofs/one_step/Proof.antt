@@ -17,9 +17,9 @@ step-priceable : {day clearing : List ℕ} {c : Counts} → OfFiles day clearing
     Priceable clearing c (stepTrade day clearing i)
 step-priceable o {i} l = record {
   of-clearing = o .of-clearing;
-  zone-is = placed (o .of-day) .step-zone i l;
-  period-is = placed (o .of-day) .step-period i l;
-  small = step-small _ _ _ (placed (o .of-day)) (ranged o) i l;
+  zone-is = placed o .step-zone i l;
+  period-is = placed o .step-period i l;
+  small = step-small _ _ _ (placed o) (ranged o) i l;
 }
 
 step-trade-requires : tie.Need-step-trade-requires

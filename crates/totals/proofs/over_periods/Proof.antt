@@ -27,7 +27,7 @@ add-requires c κs =
     let s = c .before .before .before .before .before in
     let o = s .pre .0 in
     more-fits (c .before .before .loop .inv) (c .before .loop-test .taken) (c .one-period .ok) (c .one-period .ensures)
-    (λ n l. block-part-size _ _ _ (placed (o .of-day)) (ranged o) (s .args .measure) n (s .args .row) (s .args .ratio) l (s .pre .1 .0) (s .pre .1 .1))
+    (λ n l. block-part-size _ _ _ (placed o) (ranged o) (s .args .measure) n (s .args .row) (s .args .ratio) l (s .pre .1 .0) (s .pre .1 .1))
     (omega arith)
 
 add-period : tie.Need-add-period Inv-loop μ-loop

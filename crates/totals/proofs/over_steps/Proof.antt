@@ -24,7 +24,7 @@ add-requires : tie.Need-add-requires Inv-loop μ-loop
 add-requires c κs =
     let s = c .before .before .before .before .before in
     more-fits (c .before .before .loop .inv) (c .before .loop-test .taken) (c .one-step .ok) (c .one-step .ensures)
-    (steps-size _ _ _ (placed (s .pre .of-day)) (ranged (s .pre)) (s .args .measure)) (omega arith)
+    (steps-size _ _ _ (placed (s .pre)) (ranged (s .pre)) (s .args .measure)) (omega arith)
 
 add-i : tie.Need-add-i Inv-loop μ-loop
 add-i c = omega arith

@@ -25,7 +25,7 @@ add-requires c κs =
     let s = c .before .before .before .before .before in
     let o = s .pre in
     more-fits (c .before .before .loop .inv) (c .before .loop-test .taken) (c .line-rent .ok) (c .line-rent .ensures)
-    (rents-size _ _ _ (placed (o .of-day)) (ranged o)) (omega arith)
+    (rents-size _ _ _ (placed o) (ranged o)) (omega arith)
 
 add-line : tie.Need-add-line Inv-loop μ-loop
 add-line c = omega arith

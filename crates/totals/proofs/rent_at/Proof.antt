@@ -19,12 +19,12 @@ flow-of-requires c κs = search needs
 price-of-requires : tie.Need-price-of-requires
 price-of-requires c κs =
     let p = c .before .before .before .before .pre in
-    (p .0 .of-clearing, (rw (c .before .line-of .ensures) (placed (p .0 .of-day) .line-from _ (p .1 .0)), p .1 .1))
+    (p .0 .of-clearing, (rw (c .before .line-of .ensures) (placed (p .0) .line-from _ (p .1 .0)), p .1 .1))
 
 price-of-requires-2 : tie.Need-price-of-requires-2
 price-of-requires-2 c κs =
     let p = c .before .before .before .before .before .pre in
-    (p .0 .of-clearing, (rw (c .before .before .line-of .ensures) (placed (p .0 .of-day) .line-to _ (p .1 .0)), p .1 .1))
+    (p .0 .of-clearing, (rw (c .before .before .line-of .ensures) (placed (p .0) .line-to _ (p .1 .0)), p .1 .1))
 
 -- the three numbers that are passed on
 flow-is : (c : tie.After-flow-of) → let a = c .before .before .before .before .args in
@@ -44,7 +44,7 @@ to-is c = same (c .price-of2 .result) (c .price-of2 .ok) ∙ c .price-of2 .ensur
 rent-requires : tie.Need-rent-requires
 rent-requires c κs =
     let p = c .before .before .before .before .before .before .pre in
-    let in- = placed (p .0 .of-day) in
+    let in- = placed (p .0) in
     let within = ranged (p .0) in (
       rw (flow-is (c .before .before)) (within .flow _ _ (p .1 .0) (p .1 .1)),
       (

@@ -24,7 +24,7 @@ add-requires : tie.Need-add-requires Inv-loop μ-loop
 add-requires c κs =
     let s = c .before .before .before .before .before in
     more-fits (c .before .before .loop .inv) (c .before .loop-test .taken) (c .missed .ok) (c .missed .ensures)
-    (missed-size _ _ _ (placed (s .pre .of-day)) (ranged (s .pre))) (omega arith)
+    (missed-size _ _ _ (placed (s .pre)) (ranged (s .pre))) (omega arith)
 
 add-k : tie.Need-add-k Inv-loop μ-loop
 add-k c = omega arith
