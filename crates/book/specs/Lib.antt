@@ -6,3 +6,5 @@ pub mod Of
 pub mod DayRows
 -- Their numbers lie within their limits, and their rows name zones and periods that are there.
 pub mod Ranges
+-- What is known before the rows are read: the frames, and prices within their limits.
+pub mod Framed

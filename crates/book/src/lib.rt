@@ -64,7 +64,7 @@ fn ratios_part<'a>(clearing: &'a [u8], counts: Counts) -> &'a [u8]
 // ---- the rows of a part: `at` is the place at which the row starts
 
 // Where the row i starts: behind the count and the rows before it.
-fn row_start(kind: Kind, periods: usize, row: usize) -> usize
+pub fn row_start(kind: Kind, periods: usize, row: usize) -> usize
     requires { ⌜ (periods ≤ mostPeriods) × (row < 65536) ⌝ }
     ensures { λ r. ⌜ (r ≡ rowStart kind periods row) × (r < 4294967296) ⌝ }
 {
@@ -91,7 +91,7 @@ fn least_of(n: u32) -> u32
     if n == 0 { market::WHOLE } else { n }
 }
 
-fn step_at(part: &[u8], at: usize) -> Step
+pub fn step_at(part: &[u8], at: usize) -> Step
     requires { ⌜ at + 12 ≤ length (now part) ⌝ }
     ensures { λ r. ⌜ r ≡ stepAt (now (part .entry)) at ⌝ }
 {
@@ -104,7 +104,7 @@ fn step_at(part: &[u8], at: usize) -> Step
     }
 }
 
-fn block_at(part: &[u8], at: usize) -> Block
+pub fn block_at(part: &[u8], at: usize) -> Block
     requires { ⌜ at + 8 ≤ length (now part) ⌝ }
     ensures { λ r. ⌜ r ≡ blockAt (now (part .entry)) at ⌝ }
 {
@@ -116,7 +116,7 @@ fn block_at(part: &[u8], at: usize) -> Block
     }
 }
 
-fn line_at(part: &[u8], at: usize) -> Line
+pub fn line_at(part: &[u8], at: usize) -> Line
     requires { ⌜ at + 2 ≤ length (now part) ⌝ }
     ensures { λ r. ⌜ r ≡ lineAt (now (part .entry)) at ⌝ }
 {
@@ -153,7 +153,7 @@ pub fn line_of(day: &[u8], counts: Counts, line: usize) -> Line
 }
 
 // A capacity of a line: the forward capacities start 2 bytes into its row, the back capacities 6.
-fn capacity_of(day: &[u8], counts: Counts, line: usize, first: usize, period: usize) -> u32
+pub fn capacity_of(day: &[u8], counts: Counts, line: usize, first: usize, period: usize) -> u32
     requires { ⌜ (OfDay (now day) counts) × ((line < counts .lines) × ((period < counts .periods) × (first ≤ 6))) ⌝ }
     ensures { λ r. ⌜ r ≡ u32At (linesPart (now (day .entry))) (rowStart Lines (counts .periods) line + first + 8 * period) ⌝ }
 {

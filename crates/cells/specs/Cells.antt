@@ -7,11 +7,12 @@ use native.Mathlib.Omega.{arith}
 use mathlib.Core.Path.{_≡_, refl, sym, ap, _∙_}
 use mathlib.Core.List.{List}
 use lib.Arith.{digits-div, digits-mod}
-use lib.IntN.{ℤ, pos, _+ℤ_, +ℤ-idr}
+use lib.IntN.{ℤ, pos, natAbs, _+ℤ_, +ℤ-idr, +ℤ-assoc}
 use lib.ListN.{length, getD, set, replicate, length-set, length-replicate, getD-replicate}
 use lib.Seq.{getD-set-same, getD-set-other}
 use Rattle.whole.specs.Whole.{at}
 use Rattle.whole.specs.Sums.{at-same, at-other}
+use Rattle.whole.specs.Size.{abs-+}
 
 -- x more in the cell k
 abbrev pub added : List ℤ → ℕ → ℤ → List ℤ
@@ -20,6 +21,32 @@ added table k x = set table k (getD table k (pos 0) +ℤ x)
 pub record Tabled (zones periods : ℕ) (f : ℕ → ℕ → ℤ) (table : List ℤ) : Type 0 where
   pub long : length table ≡ 200
   pub each : (zone period : ℕ) → zone < zones → period < periods → getD table (zone * periods + period) (pos 0) ≡ f zone period
+
+-- g more in each cell
+pub record Gained (zones periods : ℕ) (g : ℕ → ℕ → ℤ) (before after : List ℤ) : Type 0 where
+  pub long : length after ≡ length before
+  pub each : (zone period : ℕ) → zone < zones → period < periods →
+      getD after (zone * periods + period) (pos 0) ≡ getD before (zone * periods + period) (pos 0) +ℤ g zone period
+
+-- where the five sums stand in a row of them
+abbrev pub buyers : ℕ
+buyers = 0
+
+abbrev pub sellers : ℕ
+sellers = 1
+
+abbrev pub rent : ℕ
+rent = 2
+
+abbrev pub traded : ℕ
+traded = 3
+
+abbrev pub shortfall : ℕ
+shortfall = 4
+
+-- no cell further from zero than the bound
+abbrev pub Within : ℕ → ℕ → ℕ → List ℤ → Type 0
+Within zones periods bound table = (zone period : ℕ) → zone < zones → period < periods → natAbs (getD table (zone * periods + period) (pos 0)) ≤ bound
 
 -- ---- one cell
 
@@ -46,6 +73,38 @@ at-cell periods zone period x z h p q = by (ℕ-discrete z zone) (ℕ-discrete h
     by (yes e) (yes f) = rw (e, f, at-same, at-same, at-same)
     by (yes e) (no f) = rw (at-other (zone * periods + period) x (z * periods + h) (λ g. f (one-cell p q g .1)), e, at-same, at-other period x h f)
     by (no e) _ = rw (at-other (zone * periods + period) x (z * periods + h) (λ g. e (one-cell p q g .0)), at-other zone (at period x h) z e)
+
+-- ---- what is gained
+
+module _ {zones periods : ℕ} where
+  pub nothing-gained : {a : List ℤ} → Gained zones periods (λ _ _. pos 0) a a
+  nothing-gained = record { long = refl; each = λ z h _ _. sym (+ℤ-idr _) }
+
+  -- x at one zone and period
+  pub gained-at : {a : List ℤ} (zone period : ℕ) → zone * periods + period < length a → period < periods → (x : ℤ) →
+      Gained zones periods (λ z h. at zone (at period x h) z) a (added a (zone * periods + period) x)
+  gained-at {a} zone period l k x = record {
+    long = length-set a (zone * periods + period) _;
+    each = λ z h _ b. added-at a (zone * periods + period) x (z * periods + h) l ∙ rw (at-cell periods zone period x z h k b);
+  }
+
+  module _ {f : ℕ → ℕ → ℤ} {a b : List ℤ} (s : Gained zones periods f a b) where
+    -- one after the other
+    pub gained-then : {g : ℕ → ℕ → ℤ} {c : List ℤ} → Gained zones periods g b c → Gained zones periods (λ z h. f z h +ℤ g z h) a c
+    gained-then t = record {
+      long = t .long ∙ s .long;
+      each = λ z h l k. rw (t .each z h l k, s .each z h l k, +ℤ-assoc);
+    }
+
+    pub gained-same : {g : ℕ → ℕ → ℤ} → ((zone period : ℕ) → zone < zones → period < periods → f zone period ≡ g zone period) → Gained zones periods g a b
+    gained-same e = record { long = s .long; each = λ z h l k. rw (← e z h l k) (s .each z h l k) }
+
+    pub within-gained : {bound more : ℕ} → Within zones periods bound a → ((zone period : ℕ) → zone < zones → period < periods → natAbs (f zone period) ≤ more) →
+        Within zones periods (bound + more) b
+    within-gained w m z h l k = rw (s .each z h l k) (omega (arith, abs-+ (getD a (z * periods + h) (pos 0)) (f z h), w z h l k, m z h l k))
+
+    pub tabled-gained : {t : ℕ → ℕ → ℤ} → Tabled zones periods t a → Tabled zones periods (λ z h. t z h +ℤ f z h) b
+    tabled-gained t = record { long = s .long ∙ t .long; each = λ z h l k. rw (s .each z h l k, t .each z h l k) }
 
 -- ---- all cells
 

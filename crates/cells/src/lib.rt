@@ -7,6 +7,17 @@ ghost use mir.Syntax.{w64};
 ghost use mir.Val.{SFits};
 ghost use Rattle.cells.specs.Cells.{added};
 
+// A row of five sums is such a table too, of one zone: where each of them stands.
+pub const BUYERS: usize = 0;
+
+pub const SELLERS: usize = 1;
+
+pub const RENT: usize = 2;
+
+pub const TRADED: usize = 3;
+
+pub const SHORTFALL: usize = 4;
+
 // The cell of a zone and period.
 pub fn cell(periods: usize, zone: usize, period: usize) -> usize
     requires { ⌜ zone * periods + period < 200 ⌝ }

@@ -149,7 +149,7 @@ pub fn block_volume(ratio: u32, quantity: u32) -> u32
 // ---- what a trade counts
 
 // What is got less what is asked, for each unit of a volume.
-fn gain(get: i64, ask: i64, volume: u32) -> i64
+pub fn gain(get: i64, ask: i64, volume: u32) -> i64
     requires { ⌜ (natAbs get ≤ mostPrice) × ((natAbs ask ≤ mostPrice) × (volume ≤ mostVolume)) ⌝ }
     ensures { λ r. ⌜ r ≡ gain get ask volume ⌝ }
 {
@@ -162,7 +162,7 @@ pub fn wide(n: u32) -> i64
     n as i64
 }
 
-fn negative(volume: i64) -> i64
+pub fn negative(volume: i64) -> i64
     requires { ⌜ natAbs volume ≤ mostVolume ⌝ }
     ensures { λ r. ⌜ r ≡ negℤ volume ⌝ }
 {
