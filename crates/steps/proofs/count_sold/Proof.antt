@@ -1,0 +1,116 @@
+-- `steps::count_sold` meets its contract. Assumes nothing.
+use native.Mathlib.Omega.{arith}
+use mathlib.Core.Path.{_≡_, refl, sym, _∙_}
+use mathlib.Core.Bool.{true, _&&_}
+use Prim.Native.Nat.{_≤_}
+use lib.Dec.{leb}
+use mir.Syntax.{w64}
+use mir.Val.{toZ, ofZ}
+use mir.ValLaws.{toZ-ofZ}
+use denote.Ref.{now}
+use lib.IntN.{pos}
+use lib.ListN.{getD}
+use borrow.Author.Needs.{needs}
+use borrow.Author.Tests.{not-false}
+use Rattle.whole.specs.Size.{same}
+use Rattle.stages.specs.First.{apart, both, leb-is}
+use Rattle.limits.specs.Limits.{mostVolume}
+use Rattle.cells.specs.Cells.{sellers}
+use Rattle.market.specs.Rules.{fullOrNone}
+use Rattle.market.specs.Measures.{gain}
+use Rattle.steps.specs.Count.{more-fits, gain-size, held}
+use Rattle.steps.proofs.count_sold.Statement.{statement}
+use Rattle.steps.proofs.count_sold.Tie as tie
+
+taken-ok-requires : tie.Need-taken-ok-requires
+taken-ok-requires c κs = search needs
+
+returns : tie.Need-returns
+returns c e = apart e refl
+
+-- the tests that hold behind the first one
+kept : (c : tie.Else1) → let a = c .before .before .args in
+    (fullOrNone (a .limit) (a .price) (a .quantity) (a .volume) && leb (a .volume) (a .quantity)) ≡ true
+kept c =
+    let s = c .before .before in
+    rw (toZ-ofZ w64 (s .args .limit) (s .fits .limit), toZ-ofZ w64 (s .args .price) (s .fits .price)) at (sym (c .before .taken-ok .ensures) ∙ not-false _ (c .if1 .left))
+
+volume-small : (c : tie.Else1) → c .before .before .args .volume ≤ mostVolume
+volume-small c =
+    let s = c .before .before in
+    let a = s .args in
+    omega (
+      arith,
+      leb-is (a .volume) (a .quantity) .0 (both (fullOrNone (a .limit) (a .price) (a .quantity) (a .volume)) (leb (a .volume) (a .quantity)) .0 (kept c) .1),
+      s .pre .0 .quantity-small,
+    )
+
+gain-requires : tie.Need-gain-requires
+gain-requires c κs =
+    let s = c .before .before .before in
+    rw (toZ-ofZ w64 (s .args .limit) (s .fits .limit), toZ-ofZ w64 (s .args .price) (s .fits .price))
+    (s .pre .0 .price-small, (s .pre .0 .limit-small, volume-small (c .before)))
+
+gain-is : (c : tie.After-gain) → let a = c .before .before .before .before .args in
+    toZ w64 (ofZ w64 (c .gain .result)) ≡ gain (a .price) (a .limit) (a .volume)
+gain-is c =
+    let s = c .before .before .before .before in
+    same (c .gain .result) (c .gain .ok) ∙ c .gain .ensures
+    ∙ rw (toZ-ofZ w64 (s .args .limit) (s .fits .limit), toZ-ofZ w64 (s .args .price) (s .fits .price))
+
+add-at-requires : tie.Need-add-at-requires
+add-at-requires c κs =
+    let s = c .before .before .before .before in
+    let near = s .pre .0 in
+    let room = s .pre .1 in (
+      omega (arith, room .sums-long),
+      rw (gain-is c)
+          (more-fits (getD (now (s .args .sums)) sellers (pos 0)) (gain (s .args .price) (s .args .limit) (s .args .volume))
+          (held (now (s .args .sums)) (room .sums-within) sellers (omega arith))
+          (gain-size (s .args .price) (s .args .limit) (s .args .volume) (near .price-small) (near .limit-small) (volume-small (c .before .before)))),
+    )
+
+wide-requires : tie.Need-wide-requires
+wide-requires c κs = search needs
+
+add-at-requires-2 : tie.Need-add-at-requires-2
+add-at-requires-2 c κs =
+    let else = c .before .before .before .before .before .before in
+    let s = else .before .before in
+    let room = s .pre .1 in (
+      room .cell-is,
+      rw (same (c .wide .result) (c .wide .ok), c .wide .ensures)
+          (more-fits (getD (now (s .args .nets)) (s .args .cell) (pos 0)) (pos (s .args .volume)) (room .cell-within) (omega (arith, volume-small else))),
+    )
+
+same-length : tie.Need-same-length
+same-length c = search needs
+
+same-length-2 : tie.Need-same-length-2
+same-length-2 c = search needs
+
+returns-2 : tie.Need-returns-2
+returns-2 c e =
+    let wide = c .before .before in
+    let gain = c .before .before .before .before .before .before in
+    let else = gain .before .before in
+    let s = else .before .before in
+    record {
+      kept = kept else;
+      nets-is = c .before .add-at2 .ensures ∙ rw (same (wide .wide .result) (wide .wide .ok), wide .wide .ensures);
+      sums-is = c .before .before .before .before .before .add-at .ensures ∙ rw (gain-is gain);
+    }
+
+pub count-sold-spec : {M : Type 1} → statement M
+count-sold-spec =
+    tie.close
+    (tie.spec
+    taken-ok-requires
+    returns
+    gain-requires
+    add-at-requires
+    wide-requires
+    add-at-requires-2
+    same-length
+    same-length-2
+    returns-2)
