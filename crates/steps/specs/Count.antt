@@ -141,10 +141,10 @@ module _ {c : Counts} {day clearing : List ℕ} (prices : PricesSmall c clearing
   unfolding stepMeasured
   counted-size s m = measured-size m _ _ (trade-small s)
 
-  brings-size : SureStep c day clearing i → (zone period : ℕ) → natAbs (brings c day clearing i zone period) ≤ 2000000000000
+  pub brings-size : SureStep c day clearing i → (zone period : ℕ) → natAbs (brings c day clearing i zone period) ≤ 2000000000000
   brings-size s zone period = counted-size s (Net zone period)
 
-  gives-size : SureStep c day clearing i → (place : ℕ) → natAbs (gives c day clearing i place) ≤ 6000000000000
+  pub gives-size : SureStep c day clearing i → (place : ℕ) → natAbs (gives c day clearing i place) ≤ 6000000000000
   gives-size s place =
       let b = at buyers (counted c day clearing Buyers i) place in
       let a = at sellers (counted c day clearing Sellers i) place in
