@@ -1,16 +1,24 @@
-// The sums over the rows of two files that read without fault: net positions, the six totals.
+// The sums over the rows of two files that read without fault: the six totals, and the tables of the net positions and the flows.
 use day::Counts;
 use market::Block;
+use market::Line;
 use market::Measure;
+use market::Side;
 use market::Totals;
 use market::Trade;
 ghost use mathlib.Core.Path.{_≡_};
-ghost use Prim.Native.Nat.{_≤_, _<_};
+ghost use Prim.Native.Nat.{_+_, _*_, _≤_, _<_};
+ghost use lib.IntN.{pos, negℤ, natAbs, _+ℤ_};
+ghost use lib.ListN.{length, getD};
+ghost use mir.Syntax.{w64};
+ghost use mir.Val.{SFits};
 ghost use Rattle.whole.specs.Whole.{sum, above-zero};
-ghost use Rattle.limits.specs.Limits.{mostRatio};
+ghost use Rattle.cells.specs.Cells.{added, Tabled};
+ghost use Rattle.limits.specs.Limits.{mostFlow, mostRatio};
 ghost use Rattle.market.specs.Market.{blockTrade};
 ghost use Rattle.book.specs.Of.{OfFiles};
 ghost use Rattle.totals.specs.Sums as sums;
+ghost use Rattle.totals.specs.Gather.{signed, brings, afterSteps, afterBlocks, afterLines};
 
 // ---- the steps
 
@@ -162,13 +170,6 @@ fn everything(measure: Measure, day: &[u8], clearing: &[u8], counts: Counts) -> 
     )
 }
 
-pub fn net_position(day: &[u8], clearing: &[u8], counts: Counts, zone: usize, period: usize) -> i64
-    requires { ⌜ OfFiles (now day) (now clearing) counts ⌝ }
-    ensures { λ r. ⌜ r ≡ sums.netPosition counts (now (day .entry)) (now (clearing .entry)) zone period ⌝ }
-{
-    everything(Measure::Net(zone, period), day, clearing, counts)
-}
-
 // ---- the shortfall
 
 pub fn whole_surplus(day: &[u8], clearing: &[u8], counts: Counts, row: usize) -> i64
@@ -249,34 +250,114 @@ fn rent(day: &[u8], clearing: &[u8], counts: Counts) -> i64
     all
 }
 
-fn line_leaves(
-    day: &[u8],
-    clearing: &[u8],
-    counts: Counts,
-    zone: usize,
-    period: usize,
-    line: usize,
-) -> i64
-    requires { ⌜ (OfFiles (now day) (now clearing) counts) × ((line < counts .lines) × (period < counts .periods)) ⌝ }
-    ensures { λ r. ⌜ r ≡ sums.lineLeaves counts (now (day .entry)) (now (clearing .entry)) zone period line ⌝ }
+// ---- the net positions and the flows, gathered by zone and period: each row is read once
+
+// A sell brings its volume, a buy takes it away.
+fn signed(side: Side, volume: u32) -> i64
+    ensures { λ r. ⌜ r ≡ signed side volume ⌝ }
 {
-    market::leaves(
-        book::line_of(day, counts, line),
-        book::flow_of(clearing, counts, line, period),
-        zone,
-    )
+    match side {
+        Side::Sell => volume as i64,
+        Side::Buy => -(volume as i64),
+    }
 }
 
-// Flows leaving a zone in a period, less flows entering it.
-pub fn net_flow(day: &[u8], clearing: &[u8], counts: Counts, zone: usize, period: usize) -> i64
-    requires { ⌜ (OfFiles (now day) (now clearing) counts) × (period < counts .periods) ⌝ }
-    ensures { λ r. ⌜ r ≡ sums.netFlow counts (now (day .entry)) (now (clearing .entry)) zone period ⌝ }
+// A trade, added at its zone and period.
+fn add_trade(trade: Trade, periods: usize, nets: &mut [i64])
+    requires { ⌜ (length (now nets) ≡ 200) × (trade .zone * periods + trade .period < 200) ⌝ }
+    requires { ⌜ SFits w64 (getD (now nets) (trade .zone * periods + trade .period) (pos 0) +ℤ brings trade) ⌝ }
+    ensures { λ r. ⌜ now (nets .exit) ≡ added (now (nets .entry)) (trade .zone * periods + trade .period) (brings trade) ⌝ }
 {
-    let mut all: i64 = 0;
-    for line in 0..counts.lines {
-        all = market::add(all, line_leaves(day, clearing, counts, zone, period, line));
+    let side = trade.side;
+    let x = signed(side, trade.volume);
+    cells::add_at(nets, cells::cell(periods, trade.zone, trade.period), x);
+}
+
+fn gather_steps(day: &[u8], clearing: &[u8], counts: Counts, nets: &mut [i64])
+    requires { ⌜ OfFiles (now day) (now clearing) counts ⌝ }
+    requires { ⌜ Tabled (counts .zones) (counts .periods) (λ _ _. pos 0) (now nets) ⌝ }
+    ensures { λ r. ⌜ Tabled (counts .zones) (counts .periods) (afterSteps counts (now (day .entry)) (now (clearing .entry)) (counts .steps)) (now (nets .exit)) ⌝ }
+{
+    for row in 0..counts.steps {
+        add_trade(step_trade(day, clearing, counts, row), counts.periods, nets);
     }
-    all
+}
+
+// A block in each of its periods.
+fn gather_block(day: &[u8], clearing: &[u8], counts: Counts, row: usize, nets: &mut [i64])
+    requires { ⌜ (OfFiles (now day) (now clearing) counts) × (row < counts .blocks) ⌝ }
+    requires { ⌜ Tabled (counts .zones) (counts .periods) (afterBlocks counts (now day) (now clearing) row) (now nets) ⌝ }
+    ensures { λ r. ⌜ Tabled (counts .zones) (counts .periods) (afterBlocks counts (now (day .entry)) (now (clearing .entry)) (row + 1)) (now (nets .exit)) ⌝ }
+{
+    let block = book::block_of(day, counts, row);
+    let ratio = book::ratio_of(clearing, counts, row);
+    for period in 0..counts.periods {
+        let volume = market::block_volume(ratio, book::quantity_of(day, counts, row, period));
+        add_trade(block_trade(block, period, volume), counts.periods, nets);
+    }
+}
+
+fn gather_blocks(day: &[u8], clearing: &[u8], counts: Counts, nets: &mut [i64])
+    requires { ⌜ OfFiles (now day) (now clearing) counts ⌝ }
+    requires { ⌜ Tabled (counts .zones) (counts .periods) (afterSteps counts (now day) (now clearing) (counts .steps)) (now nets) ⌝ }
+    ensures { λ r. ⌜ Tabled (counts .zones) (counts .periods) (afterBlocks counts (now (day .entry)) (now (clearing .entry)) (counts .blocks)) (now (nets .exit)) ⌝ }
+{
+    for row in 0..counts.blocks {
+        gather_block(day, clearing, counts, row, nets);
+    }
+}
+
+pub fn gather_nets(day: &[u8], clearing: &[u8], counts: Counts, nets: &mut [i64])
+    requires { ⌜ OfFiles (now day) (now clearing) counts ⌝ }
+    requires { ⌜ Tabled (counts .zones) (counts .periods) (λ _ _. pos 0) (now nets) ⌝ }
+    ensures { λ r. ⌜ Tabled (counts .zones) (counts .periods) (sums.netPosition counts (now (day .entry)) (now (clearing .entry))) (now (nets .exit)) ⌝ }
+{
+    gather_steps(day, clearing, counts, nets);
+    gather_blocks(day, clearing, counts, nets);
+}
+
+// A flow leaves "from" and enters "to".
+fn add_flow(line: Line, flow: i64, periods: usize, period: usize, flows: &mut [i64])
+    requires { ⌜ (length (now flows) ≡ 200) × ((line .from * periods + period < 200) × (line .to * periods + period < 200)) ⌝ }
+    requires { ⌜ natAbs flow ≤ mostFlow ⌝ }
+    requires { ⌜ SFits w64 (getD (now flows) (line .from * periods + period) (pos 0) +ℤ flow) ⌝ }
+    requires { ⌜ SFits w64 (getD (added (now flows) (line .from * periods + period) flow) (line .to * periods + period) (pos 0) +ℤ negℤ flow) ⌝ }
+    ensures { λ r. ⌜ now (flows .exit) ≡ added (added (now (flows .entry)) (line .from * periods + period) flow) (line .to * periods + period) (negℤ flow) ⌝ }
+{
+    cells::add_at(flows, cells::cell(periods, line.from, period), flow);
+    cells::add_at(
+        flows,
+        cells::cell(periods, line.to, period),
+        market::less(0, flow),
+    );
+}
+
+// A line in each period.
+fn gather_line(day: &[u8], clearing: &[u8], counts: Counts, line: usize, flows: &mut [i64])
+    requires { ⌜ (OfFiles (now day) (now clearing) counts) × (line < counts .lines) ⌝ }
+    requires { ⌜ Tabled (counts .zones) (counts .periods) (afterLines counts (now day) (now clearing) line) (now flows) ⌝ }
+    ensures { λ r. ⌜ Tabled (counts .zones) (counts .periods) (afterLines counts (now (day .entry)) (now (clearing .entry)) (line + 1)) (now (flows .exit)) ⌝ }
+{
+    let ends = book::line_of(day, counts, line);
+    for period in 0..counts.periods {
+        add_flow(
+            ends,
+            book::flow_of(clearing, counts, line, period),
+            counts.periods,
+            period,
+            flows,
+        );
+    }
+}
+
+pub fn gather_flows(day: &[u8], clearing: &[u8], counts: Counts, flows: &mut [i64])
+    requires { ⌜ OfFiles (now day) (now clearing) counts ⌝ }
+    requires { ⌜ Tabled (counts .zones) (counts .periods) (λ _ _. pos 0) (now flows) ⌝ }
+    ensures { λ r. ⌜ Tabled (counts .zones) (counts .periods) (sums.netFlow counts (now (day .entry)) (now (clearing .entry))) (now (flows .exit)) ⌝ }
+{
+    for line in 0..counts.lines {
+        gather_line(day, clearing, counts, line, flows);
+    }
 }
 
 // ---- the totals
