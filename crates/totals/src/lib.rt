@@ -257,8 +257,8 @@ fn signed(side: Side, volume: u32) -> i64
     ensures { λ r. ⌜ r ≡ signed side volume ⌝ }
 {
     match side {
-        Side::Sell => volume as i64,
-        Side::Buy => -(volume as i64),
+        Side::Sell => market::wide(volume),
+        Side::Buy => market::less(0, market::wide(volume)),
     }
 }
 
@@ -269,8 +269,11 @@ fn add_trade(trade: Trade, periods: usize, nets: &mut [i64])
     ensures { λ r. ⌜ now (nets .exit) ≡ added (now (nets .entry)) (trade .zone * periods + trade .period) (brings trade) ⌝ }
 {
     let side = trade.side;
-    let x = signed(side, trade.volume);
-    cells::add_at(nets, cells::cell(periods, trade.zone, trade.period), x);
+    cells::add_at(
+        nets,
+        cells::cell(periods, trade.zone, trade.period),
+        signed(side, trade.volume),
+    );
 }
 
 fn gather_steps(day: &[u8], clearing: &[u8], counts: Counts, nets: &mut [i64])

@@ -1,10 +1,11 @@
 -- `totals::signed` meets its contract. Assumes nothing.
-use mathlib.Core.Path.{_∙_}
 use native.Mathlib.Omega.{arith}
+use mathlib.Core.Path.{_≡_, _∙_}
+use lib.IntN.{pos, +ℤ-idl}
 use mir.Syntax.{w64}
-use mir.ValLaws.{toZ-pos, toZ-ofZ}
+use mir.Val.{toZ, ofZ}
 use Rattle.whole.specs.Ring.{linear}
-use Rattle.whole.specs.Size.{fits-is}
+use Rattle.whole.specs.Size.{same, fits-is}
 use borrow.Author.Needs.{needs}
 use Rattle.totals.proofs.signed.Statement.{statement}
 use Rattle.totals.proofs.signed.Tie as tie
@@ -12,27 +13,31 @@ use Rattle.totals.proofs.signed.Tie as tie
 enum-told : tie.Need-enum-told
 enum-told c = search needs
 
-cast-result : tie.Need-cast-result
-cast-result c = search needs
+wide-requires : tie.Need-wide-requires
+wide-requires c κs = search needs
 
 enum-told-2 : tie.Need-enum-told-2
 enum-told-2 c = search needs
 
-cast-result-2 : tie.Need-cast-result-2
-cast-result-2 c = search needs
+wide-requires-2 : tie.Need-wide-requires-2
+wide-requires-2 c κs = search needs
 
-sub-result : tie.Need-sub-result
-sub-result c = rw (toZ-pos w64 (c .before .before .args .volume) (omega arith)) (simp (fits-is, linear) (omega arith))
+-- the volume that is taken away
+volume : (c : tie.After-wide2) → toZ w64 (ofZ w64 (c .wide2 .result)) ≡ pos (c .before .before .before .args .volume)
+volume c = same (c .wide2 .result) (c .wide2 .ok) ∙ c .wide2 .ensures
+
+less-requires : tie.Need-less-requires
+less-requires c κs = rw (volume c) (simp (fits-is, linear) (omega arith))
 
 returns : tie.Need-returns
-returns c = rw (toZ-pos w64 (c .before .before .args .volume) (omega arith), c .enum-told .given .1)
+returns c = same (c .wide .result) (c .wide .ok) ∙ c .wide .ensures ∙ rw (c .before .enum-told .given .1)
 
 returns-2 : tie.Need-returns-2
 returns-2 c =
-    toZ-ofZ w64 _ (sub-result c)
-    ∙ rw (toZ-pos w64 (c .before .before .args .volume) (omega arith), c .enum-told2 .given .1) (simp linear (omega arith))
+    same (c .less .result) (c .less .ok) ∙ c .less .ensures
+    ∙ rw (volume (c .before), +ℤ-idl, c .before .before .enum-told2 .given .1)
 
 pub signed-spec : {M : Type 1} → statement M
 signed-spec =
     tie.close
-    (tie.spec enum-told cast-result enum-told-2 cast-result-2 sub-result returns returns-2)
+    (tie.spec enum-told wide-requires enum-told-2 wide-requires-2 less-requires returns returns-2)
