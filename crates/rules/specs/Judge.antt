@@ -3,6 +3,8 @@ use Prim.Native.Nat.{ℕ, _<_}
 use mathlib.Core.Path.{_≡_, sym, ap, _∙_}
 use mathlib.Core.Bool.{Bool}
 use mathlib.Core.List.{List, [], _∷_, _++_}
+use lib.IntN.{ℤ}
+use Rattle.cells.specs.Cells.{Tabled}
 use Rattle.stages.specs.Stage.{Stage, spot, faultAt, firstFault, orFault, fault-++}
 use Rattle.stages.specs.declared.Spot.{Spot}
 use Rattle.stages.specs.declared.Place.{Place}
@@ -12,6 +14,7 @@ use Rattle.market.specs.Rules as market
 use Rattle.market.specs.declared.Rule.{Rule}
 use Rattle.day.specs.declared.Counts.{Counts}
 use Rattle.book.specs.Book.{dayOf, pricesOf, choiceOf}
+use Rattle.totals.specs.Sums.{netPosition, netFlow}
 
 abbrev pub rowsOf : Counts → Rule → ℕ
 rowsOf c = market.ruleRows (c .zones) (c .lines) (c .steps) (c .blocks)
@@ -28,6 +31,11 @@ module _ (c : Counts) (day clearing : List ℕ) where
 
   abbrev pub stages : List Stage
   stages = market.ruleStages (dayOf c day) (pricesOf c clearing) (choiceOf c clearing)
+
+-- the tables of the net positions and of the flows
+pub record Gathered (c : Counts) (day clearing : List ℕ) (nets flows : List ℤ) : Type 0 where
+  pub nets-are : Tabled (c .zones) (c .periods) (netPosition c day clearing) nets
+  pub flows-are : Tabled (c .zones) (c .periods) (netFlow c day clearing) flows
 
 -- ---- the laws by which a stage's fault is found and handed on
 

@@ -7,12 +7,14 @@ use stages::Place;
 use stages::Spot;
 ghost use mathlib.Core.Path.{_≡_};
 ghost use mathlib.Core.List.{[], _∷_};
-ghost use Prim.Native.Nat.{_<_};
+ghost use Prim.Native.Nat.{_+_, _*_, _<_};
+ghost use lib.IntN.{pos};
+ghost use lib.ListN.{length, getD};
 ghost use Rattle.stages.specs.Stage.{spot, firstFault, orFault};
-ghost use Rattle.market.specs.Rules.{number};
+ghost use Rattle.market.specs.Rules.{number, equal};
 ghost use Rattle.market.specs.declared.Rule.the-variants.{Price, Capacity, Quantity, Ratio, Whole, Balance, Step, Line, Block};
 ghost use Rattle.book.specs.Of.{OfFiles};
-ghost use Rattle.rules.specs.Judge.{rowsOf, columnsOf, test, stage, stages};
+ghost use Rattle.rules.specs.Judge.{rowsOf, columnsOf, test, stage, stages, Gathered};
 
 // ---- the test at one place
 
@@ -64,14 +66,13 @@ fn whole_holds(day: &[u8], clearing: &[u8], counts: Counts, row: usize, period: 
     )
 }
 
-fn balance_holds(day: &[u8], clearing: &[u8], counts: Counts, zone: usize, period: usize) -> bool
-    requires { ⌜ (OfFiles (now day) (now clearing) counts) × (period < counts .periods) ⌝ }
-    ensures { λ r. ⌜ r ≡ test counts (now (day .entry)) (now (clearing .entry)) Balance zone period ⌝ }
+// Over the tables of the net positions and of the flows.
+fn balance_holds(counts: Counts, nets: &[i64], flows: &[i64], zone: usize, period: usize) -> bool
+    requires { ⌜ (zone * counts .periods + period < 200) × ((length (now nets) ≡ 200) × (length (now flows) ≡ 200)) ⌝ }
+    ensures { λ r. ⌜ r ≡ equal (getD (now (nets .entry)) (zone * counts .periods + period) (pos 0)) (getD (now (flows .entry)) (zone * counts .periods + period) (pos 0)) ⌝ }
 {
-    market::equal(
-        totals::net_position(day, clearing, counts, zone, period),
-        totals::net_flow(day, clearing, counts, zone, period),
-    )
+    let cell = cells::cell(counts.periods, zone, period);
+    market::equal(nets[cell], flows[cell])
 }
 
 fn step_holds(day: &[u8], clearing: &[u8], counts: Counts, row: usize) -> bool
@@ -118,10 +119,13 @@ fn holds_at(
     day: &[u8],
     clearing: &[u8],
     counts: Counts,
+    nets: &[i64],
+    flows: &[i64],
     row: usize,
     column: usize,
 ) -> bool
     requires { ⌜ (OfFiles (now day) (now clearing) counts) × ((row < rowsOf counts rule) × (column < columnsOf counts rule)) ⌝ }
+    requires { ⌜ Gathered counts (now day) (now clearing) (now nets) (now flows) ⌝ }
     ensures { λ r. ⌜ r ≡ test counts (now (day .entry)) (now (clearing .entry)) rule row column ⌝ }
 {
     match rule {
@@ -130,7 +134,7 @@ fn holds_at(
         Rule::Quantity => quantity_holds(day, clearing, counts, row),
         Rule::Ratio => ratio_holds(day, clearing, counts, row),
         Rule::Whole => whole_holds(day, clearing, counts, row, column),
-        Rule::Balance => balance_holds(day, clearing, counts, row, column),
+        Rule::Balance => balance_holds(counts, nets, flows, row, column),
         Rule::Step => step_holds(day, clearing, counts, row),
         Rule::Line => line_holds(day, clearing, counts, row, column),
         Rule::Block => block_holds(day, clearing, counts, row),
@@ -190,8 +194,16 @@ fn number_of(rule: Rule) -> u8
 // ---- the search
 
 // Row by row, and in a row column by column, to the first place at which the rule is broken.
-fn first_broken(rule: Rule, day: &[u8], clearing: &[u8], counts: Counts) -> Spot
+fn first_broken(
+    rule: Rule,
+    day: &[u8],
+    clearing: &[u8],
+    counts: Counts,
+    nets: &[i64],
+    flows: &[i64],
+) -> Spot
     requires { ⌜ OfFiles (now day) (now clearing) counts ⌝ }
+    requires { ⌜ Gathered counts (now day) (now clearing) (now nets) (now flows) ⌝ }
     ensures { λ r. ⌜ r ≡ spot (stage counts (now (day .entry)) (now (clearing .entry)) rule) ⌝ }
 {
     let rows = rows_of(rule, counts);
@@ -199,7 +211,7 @@ fn first_broken(rule: Rule, day: &[u8], clearing: &[u8], counts: Counts) -> Spot
     let mut spot = Spot::Nowhere;
     'scan: for row in 0..rows {
         for column in 0..columns {
-            if !holds_at(rule, day, clearing, counts, row, column) {
+            if !holds_at(rule, day, clearing, counts, nets, flows, row, column) {
                 spot = Spot::Cell(row, column);
                 break 'scan;
             }
@@ -208,11 +220,19 @@ fn first_broken(rule: Rule, day: &[u8], clearing: &[u8], counts: Counts) -> Spot
     spot
 }
 
-fn fault_of(rule: Rule, day: &[u8], clearing: &[u8], counts: Counts) -> Fault
+fn fault_of(
+    rule: Rule,
+    day: &[u8],
+    clearing: &[u8],
+    counts: Counts,
+    nets: &[i64],
+    flows: &[i64],
+) -> Fault
     requires { ⌜ OfFiles (now day) (now clearing) counts ⌝ }
+    requires { ⌜ Gathered counts (now day) (now clearing) (now nets) (now flows) ⌝ }
     ensures { λ r. ⌜ r ≡ firstFault (stage counts (now (day .entry)) (now (clearing .entry)) rule ∷ []) ⌝ }
 {
-    match first_broken(rule, day, clearing, counts) {
+    match first_broken(rule, day, clearing, counts, nets, flows) {
         Spot::Cell(row, column) => Fault::Broken(
             number_of(rule),
             Place {
@@ -226,28 +246,44 @@ fn fault_of(rule: Rule, day: &[u8], clearing: &[u8], counts: Counts) -> Fault
 }
 
 // A fault that was found stays; else this rule is judged.
-fn judged(rule: Rule, day: &[u8], clearing: &[u8], counts: Counts, earlier: Fault) -> Fault
+fn judged(
+    rule: Rule,
+    day: &[u8],
+    clearing: &[u8],
+    counts: Counts,
+    nets: &[i64],
+    flows: &[i64],
+    earlier: Fault,
+) -> Fault
     requires { ⌜ OfFiles (now day) (now clearing) counts ⌝ }
+    requires { ⌜ Gathered counts (now day) (now clearing) (now nets) (now flows) ⌝ }
     ensures { λ r. ⌜ r ≡ orFault earlier (firstFault (stage counts (now (day .entry)) (now (clearing .entry)) rule ∷ [])) ⌝ }
 {
     match earlier {
         Fault::Broken(k, p) => Fault::Broken(k, p),
-        Fault::Clean => fault_of(rule, day, clearing, counts),
+        Fault::Clean => fault_of(rule, day, clearing, counts, nets, flows),
     }
 }
 
 // The rules in order: 20 and 21 come after 13.
-pub fn first_fault(day: &[u8], clearing: &[u8], counts: Counts) -> Fault
+pub fn first_fault(
+    day: &[u8],
+    clearing: &[u8],
+    counts: Counts,
+    nets: &[i64],
+    flows: &[i64],
+) -> Fault
     requires { ⌜ OfFiles (now day) (now clearing) counts ⌝ }
+    requires { ⌜ Gathered counts (now day) (now clearing) (now nets) (now flows) ⌝ }
     ensures { λ r. ⌜ r ≡ firstFault (stages counts (now (day .entry)) (now (clearing .entry))) ⌝ }
 {
-    let fault = fault_of(Rule::Price, day, clearing, counts);
-    let fault = judged(Rule::Capacity, day, clearing, counts, fault);
-    let fault = judged(Rule::Quantity, day, clearing, counts, fault);
-    let fault = judged(Rule::Ratio, day, clearing, counts, fault);
-    let fault = judged(Rule::Whole, day, clearing, counts, fault);
-    let fault = judged(Rule::Balance, day, clearing, counts, fault);
-    let fault = judged(Rule::Step, day, clearing, counts, fault);
-    let fault = judged(Rule::Line, day, clearing, counts, fault);
-    judged(Rule::Block, day, clearing, counts, fault)
+    let fault = fault_of(Rule::Price, day, clearing, counts, nets, flows);
+    let fault = judged(Rule::Capacity, day, clearing, counts, nets, flows, fault);
+    let fault = judged(Rule::Quantity, day, clearing, counts, nets, flows, fault);
+    let fault = judged(Rule::Ratio, day, clearing, counts, nets, flows, fault);
+    let fault = judged(Rule::Whole, day, clearing, counts, nets, flows, fault);
+    let fault = judged(Rule::Balance, day, clearing, counts, nets, flows, fault);
+    let fault = judged(Rule::Step, day, clearing, counts, nets, flows, fault);
+    let fault = judged(Rule::Line, day, clearing, counts, nets, flows, fault);
+    judged(Rule::Block, day, clearing, counts, nets, flows, fault)
 }

@@ -12,18 +12,18 @@ use Rattle.rules.proofs.first_broken.Statement.{statement}
 use Rattle.rules.proofs.first_broken.Tie as tie
 
 abbrev Inv-loop : tie.InvT-loop
-Inv-loop rule day clearing counts rows columns spot₀ row column₀ spot column =
+Inv-loop rule day clearing counts nets flows rows columns spot₀ row column₀ spot column =
     (column ≤ columns) × ((spot ≡ Nowhere) × Passed (test counts day clearing rule row) column)
 
 abbrev μ-loop : tie.MeasureT-loop
-μ-loop rule day clearing counts rows columns spot₀ row column₀ spot column = columns - column
+μ-loop rule day clearing counts nets flows rows columns spot₀ row column₀ spot column = columns - column
 
 abbrev Inv-scan : tie.InvT-scan
-Inv-scan rule day clearing counts rows columns spot₀ row₀ spot row =
+Inv-scan rule day clearing counts nets flows rows columns spot₀ row₀ spot row =
     (row ≤ rows) × ((spot ≡ Nowhere) × RowsPassed (test counts day clearing rule) columns row)
 
 abbrev μ-scan : tie.MeasureT-scan
-μ-scan rule day clearing counts rows columns spot₀ row₀ spot row = rows - row
+μ-scan rule day clearing counts nets flows rows columns spot₀ row₀ spot row = rows - row
 
 rows-of-requires : tie.Need-rows-of-requires Inv-loop μ-loop Inv-scan μ-scan
 rows-of-requires c κs = search needs
@@ -43,7 +43,7 @@ holds-at-requires c κs =
     let rows = columns .before in
     let row = below (rows .rows-of .ensures) (c .before .before .scan-test .taken) in
     let column = below (columns .columns-of .ensures) (c .loop-test .taken) in
-    (rows .before .before .before .pre, (row, column))
+    ((rows .before .before .before .pre .0, (row, column)), rows .before .before .before .pre .1)
 
 add-column : tie.Need-add-column Inv-loop μ-loop Inv-scan μ-scan
 add-column c = search needs

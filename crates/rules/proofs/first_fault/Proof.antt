@@ -33,7 +33,7 @@ judged-requires-7 : tie.Need-judged-requires-7
 judged-requires-7 c κs = search needs
 
 judged-requires-8 : tie.Need-judged-requires-8
-judged-requires-8 c κs = search needs
+judged-requires-8 c κs = c .before .before .before .before .before .before .before .before .before .before .pre
 
 returns : tie.Need-returns
 returns c =

@@ -1,8 +1,9 @@
 -- `rules::holds_at` meets its contract. Assumes nothing.
 use Prim.Native.Nat.{_<_}
-use mathlib.Core.Path.{_≡_, subst}
+use mathlib.Core.Path.{_≡_, subst, _∙_}
 use Rattle.market.specs.Rules.{test}
 use Rattle.market.specs.declared.Rule.{Rule}
+use Rattle.book.specs.Of.{price-cell}
 use Rattle.rules.specs.Judge.{rowsOf, columnsOf}
 use borrow.Author.Needs.{needs}
 use Rattle.rules.proofs.holds_at.Statement.{statement}
@@ -13,61 +14,64 @@ place : (s : tie.Start) {rule : Rule} → s .args .rule ≡ rule →
     (s .args .row < rowsOf (s .args .counts) rule) × (s .args .column < columnsOf (s .args .counts) rule)
 place s e =
     let a = s .args in
-    subst (λ (rule : Rule). (a .row < rowsOf (a .counts) rule) × (a .column < columnsOf (a .counts) rule)) e (s .pre .1)
+    subst (λ (rule : Rule). (a .row < rowsOf (a .counts) rule) × (a .column < columnsOf (a .counts) rule)) e (s .pre .0 .1)
 
 enum-told : tie.Need-enum-told
 enum-told c = search needs
 
 price-holds-requires : tie.Need-price-holds-requires
-price-holds-requires c κs = let s = c .before .before .before .before in (s .pre .0, place s (c .enum-told .given .1))
+price-holds-requires c κs = let s = c .before .before .before .before in (s .pre .0 .0, place s (c .enum-told .given .1))
 
 enum-told-2 : tie.Need-enum-told-2
 enum-told-2 c = search needs
 
 capacity-holds-requires : tie.Need-capacity-holds-requires
-capacity-holds-requires c κs = let s = c .before .before .before .before in (s .pre .0, place s (c .enum-told2 .given .1))
+capacity-holds-requires c κs = let s = c .before .before .before .before in (s .pre .0 .0, place s (c .enum-told2 .given .1))
 
 enum-told-3 : tie.Need-enum-told-3
 enum-told-3 c = search needs
 
 quantity-holds-requires : tie.Need-quantity-holds-requires
-quantity-holds-requires c κs = let s = c .before .before .before .before in (s .pre .0, place s (c .enum-told3 .given .1) .0)
+quantity-holds-requires c κs = let s = c .before .before .before .before in (s .pre .0 .0, place s (c .enum-told3 .given .1) .0)
 
 enum-told-4 : tie.Need-enum-told-4
 enum-told-4 c = search needs
 
 ratio-holds-requires : tie.Need-ratio-holds-requires
-ratio-holds-requires c κs = let s = c .before .before .before .before in (s .pre .0, place s (c .enum-told4 .given .1) .0)
+ratio-holds-requires c κs = let s = c .before .before .before .before in (s .pre .0 .0, place s (c .enum-told4 .given .1) .0)
 
 enum-told-5 : tie.Need-enum-told-5
 enum-told-5 c = search needs
 
 whole-holds-requires : tie.Need-whole-holds-requires
-whole-holds-requires c κs = let s = c .before .before .before .before in (s .pre .0, place s (c .enum-told5 .given .1))
+whole-holds-requires c κs = let s = c .before .before .before .before in (s .pre .0 .0, place s (c .enum-told5 .given .1))
 
 enum-told-6 : tie.Need-enum-told-6
 enum-told-6 c = search needs
 
 balance-holds-requires : tie.Need-balance-holds-requires
-balance-holds-requires c κs = let s = c .before .before .before .before in (s .pre .0, place s (c .enum-told6 .given .1) .1)
+balance-holds-requires c κs =
+    let s = c .before .before .before .before in
+    let g = s .pre .1 in
+    (price-cell (s .pre .0 .0 .of-clearing) (place s (c .enum-told6 .given .1)), (g .nets-are .long, g .flows-are .long))
 
 enum-told-7 : tie.Need-enum-told-7
 enum-told-7 c = search needs
 
 step-holds-requires : tie.Need-step-holds-requires
-step-holds-requires c κs = let s = c .before .before .before .before in (s .pre .0, place s (c .enum-told7 .given .1) .0)
+step-holds-requires c κs = let s = c .before .before .before .before in (s .pre .0 .0, place s (c .enum-told7 .given .1) .0)
 
 enum-told-8 : tie.Need-enum-told-8
 enum-told-8 c = search needs
 
 line-holds-requires : tie.Need-line-holds-requires
-line-holds-requires c κs = let s = c .before .before .before .before in (s .pre .0, place s (c .enum-told8 .given .1))
+line-holds-requires c κs = let s = c .before .before .before .before in (s .pre .0 .0, place s (c .enum-told8 .given .1))
 
 enum-told-9 : tie.Need-enum-told-9
 enum-told-9 c = search needs
 
 block-holds-requires : tie.Need-block-holds-requires
-block-holds-requires c κs = let s = c .before .before .before .before in (s .pre .0, place s (c .enum-told9 .given .1) .0)
+block-holds-requires c κs = let s = c .before .before .before .before in (s .pre .0 .0, place s (c .enum-told9 .given .1) .0)
 
 returns : tie.Need-returns
 unfolding test
@@ -91,7 +95,12 @@ returns-5 c = rw (c .before .enum-told5 .given .1) (c .whole-holds .ensures)
 
 returns-6 : tie.Need-returns-6
 unfolding test
-returns-6 c = rw (c .before .enum-told6 .given .1) (c .balance-holds .ensures)
+returns-6 c =
+    let s = c .before .before .before .before .before in
+    let g = s .pre .1 in
+    let p = place s (c .before .enum-told6 .given .1) in
+    rw (c .before .enum-told6 .given .1)
+    (c .balance-holds .ensures ∙ rw (g .nets-are .each _ _ (p .0) (p .1), g .flows-are .each _ _ (p .0) (p .1)))
 
 returns-7 : tie.Need-returns-7
 unfolding test
