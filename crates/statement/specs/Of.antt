@@ -4,21 +4,25 @@ use native.Mathlib.Nat.{le-refl, div-lt-iff-lt-mul, mod-lt}
 use native.Mathlib.Omega.{arith}
 use mathlib.Core.Path.{_≡_, sym}
 use mathlib.Core.List.{List}
-use lib.IntN.{ℤ}
+use lib.IntN.{ℤ, pos}
+use lib.ListN.{getD}
 use lib.Arith.{digits-div, digits-mod}
 use mir.Syntax.{w32}
 use mir.Val.{SFits}
 use Rattle.whole.specs.Size.{fits-i32}
+use Rattle.cells.specs.Cells.{Tabled, row-tabled}
 use Rattle.market.specs.Market.{netPosition}
 use Rattle.market.specs.declared.Totals.{Totals}
 use Rattle.market.specs.Rules.{Balanced}
 use Rattle.market.specs.MeasureLaws.{flows-size, net-flow-is}
 use Rattle.day.specs.declared.Counts.{Counts}
+use Rattle.day.specs.Good.{prices-most}
 use Rattle.book.specs.Book.{dayOf, choiceOf}
 use Rattle.book.specs.Of.{OfFiles}
 use Rattle.book.specs.Ranges.{placed, ranged}
 use Rattle.totals.specs.Sums.{netFlow}
 use Rattle.statement.specs.Statement.{statement}
+use Rattle.statement.specs.Laws.{nets-cong}
 
 -- so many net positions
 abbrev pub netCount : Counts → ℕ
@@ -67,3 +71,17 @@ module _ {day clearing : List ℕ} {c : Counts} (o : OfFiles day clearing c) (k 
   flow-row-is b l =
       let least = o .of-clearing .limits .periods-least in
       sym (b (k / c .periods) (k % c .periods) (row-zone l least) (row-period k least))
+
+-- ---- a table of the net positions
+
+module _ {day clearing : List ℕ} {c : Counts} (o : OfFiles day clearing c) {table : List ℤ}
+    (t : Tabled (c .zones) (c .periods) (netPosition (dayOf c day) (choiceOf c clearing)) table) where
+  -- its cells, one after the other
+  table-row : (k : ℕ) → k < netCount c → getD table k (pos 0) ≡ netRow c day clearing k
+  table-row k l = let limits = o .of-clearing .limits in row-tabled (prices-most limits) t (limits .periods-least) l
+
+  pub table-fits : Balanced (dayOf c day) (choiceOf c clearing) → (k : ℕ) → k < netCount c → SFits w32 (getD table k (pos 0))
+  table-fits b k l = rw (table-row k l, ← flow-row-is o k b l) (flow-row-fits o k)
+
+  pub table-statement : (totals : Totals) → statement totals (λ k. getD table k (pos 0)) (netCount c) ≡ statementWith c day clearing totals
+  table-statement totals = rw (nets-cong (λ k. getD table k (pos 0)) (netRow c day clearing) (netCount c) table-row)

@@ -2,17 +2,16 @@
 use day::Counts;
 use market::Totals;
 ghost use mathlib.Core.Path.{_≡_};
-ghost use Prim.Native.Nat.{_+_, _≤_};
-ghost use lib.ListN.{length};
+ghost use Prim.Native.Nat.{ℕ, _+_, _*_, _≤_, _<_};
+ghost use lib.IntN.{pos};
+ghost use lib.ListN.{length, getD};
 ghost use mir.Syntax.{w32};
 ghost use mir.Val.{SFits};
 ghost use Rattle.wire.specs.Bytes.{bits32, bytes32, put};
 ghost use Rattle.day.specs.Good.{InLimits};
-ghost use Rattle.market.specs.Rules.{Balanced};
-ghost use Rattle.book.specs.Book.{dayOf, choiceOf};
-ghost use Rattle.book.specs.Of.{OfFiles};
-ghost use Rattle.statement.specs.Statement.{head, nets, statementLength};
-ghost use Rattle.statement.specs.Of.{netCount, flowRow, statementWith};
+ghost use Rattle.statement.specs.Statement as bytes;
+ghost use Rattle.statement.specs.Statement.{head, statement, statementLength};
+ghost use Rattle.statement.specs.Of.{netCount};
 
 fn put_head(room: &mut [u8], totals: Totals, count: u16)
     requires { ⌜ 52 ≤ length (now room) ⌝ }
@@ -50,20 +49,14 @@ pub fn statement_length(counts: Counts) -> usize
     52 + 4 * (counts.zones * counts.periods)
 }
 
-// The net positions, ordered like prices. In a balanced clearing a net position is what its lines carry away, so the steps are not read
-// again.
-fn put_nets(room: &mut [u8], day: &[u8], clearing: &[u8], counts: Counts)
-    requires { ⌜ (OfFiles (now day) (now clearing) counts) × (statementLength (netCount counts) ≤ length (now room)) ⌝ }
-    ensures { λ r. ⌜ now (room .exit) ≡ put (now (room .entry)) 52 (nets (flowRow counts (now (day .entry)) (now (clearing .entry))) (netCount counts)) ⌝ }
+// The net positions, in the order of their table.
+fn put_nets(room: &mut [u8], nets: &[i64], n: usize)
+    requires { ⌜ (52 + 4 * n ≤ length (now room)) × (n ≤ length (now nets)) ⌝ }
+    requires { ⌜ ((k : ℕ) → k < n → SFits w32 (getD (now nets) k (pos 0))) ⌝ }
+    ensures { λ r. ⌜ now (room .exit) ≡ put (now (room .entry)) 52 (bytes.nets (λ k. getD (now (nets .entry)) k (pos 0)) n) ⌝ }
 {
-    let periods = counts.periods;
-    let n = counts.zones * periods;
     for k in 0..n {
-        put_net(
-            room,
-            52 + 4 * k,
-            totals::net_flow(day, clearing, counts, k / periods, k % periods),
-        );
+        put_net(room, 52 + 4 * k, nets[k]);
     }
 }
 
@@ -74,11 +67,12 @@ fn count_of(counts: Counts) -> u16
     (counts.zones * counts.periods) as u16
 }
 
-pub fn put_statement(room: &mut [u8], day: &[u8], clearing: &[u8], counts: Counts, totals: Totals)
-    requires { ⌜ (OfFiles (now day) (now clearing) counts) × (statementLength (netCount counts) ≤ length (now room)) ⌝ }
-    requires { ⌜ Balanced (dayOf counts (now day)) (choiceOf counts (now clearing)) ⌝ }
-    ensures { λ r. ⌜ now (room .exit) ≡ put (now (room .entry)) 0 (statementWith counts (now (day .entry)) (now (clearing .entry)) totals) ⌝ }
+// With the table of the net positions.
+pub fn put_statement(room: &mut [u8], counts: Counts, totals: Totals, nets: &[i64])
+    requires { ⌜ (InLimits counts) × (statementLength (netCount counts) ≤ length (now room)) ⌝ }
+    requires { ⌜ (length (now nets) ≡ 200) × ((k : ℕ) → k < netCount counts → SFits w32 (getD (now nets) k (pos 0))) ⌝ }
+    ensures { λ r. ⌜ now (room .exit) ≡ put (now (room .entry)) 0 (statement totals (λ k. getD (now (nets .entry)) k (pos 0)) (netCount counts)) ⌝ }
 {
     put_head(room, totals, count_of(counts));
-    put_nets(room, day, clearing, counts);
+    put_nets(room, nets, counts.zones * counts.periods);
 }
