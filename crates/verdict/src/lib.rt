@@ -7,7 +7,9 @@ use stages::Fault;
 use stages::Place;
 ghost use mathlib.Core.Path.{_≡_};
 ghost use lib.ListN.{length};
+ghost use Rattle.cells.specs.Cells.{Tabled};
 ghost use Rattle.book.specs.Of.{OfFiles};
+ghost use Rattle.totals.specs.Sums as sums;
 ghost use Rattle.verdict.specs.Verdict.{Checked, leaves, givenTotals};
 ghost use Rattle.verdict.specs.Steps.{fromRules, fromRoom, Released};
 
@@ -18,8 +20,16 @@ pub enum Outcome {
 
 // ---- one after the other: the files, the rules, the room
 
-fn from_room(day: &[u8], clearing: &[u8], counts: Counts, room: &mut [u8]) -> Outcome
+fn from_room(
+    day: &[u8],
+    clearing: &[u8],
+    counts: Counts,
+    totals: Totals,
+    nets: &[i64],
+    room: &mut [u8],
+) -> Outcome
     requires { ⌜ Released (now day) (now clearing) counts ⌝ }
+    requires { ⌜ (totals ≡ sums.totals counts (now day) (now clearing)) × (Tabled (counts .zones) (counts .periods) (sums.netPosition counts (now day) (now clearing)) (now nets)) ⌝ }
     ensures said { λ r. ⌜ r ≡ fromRoom (now (day .entry)) (now (clearing .entry)) (length (now (room .entry))) ⌝ }
     ensures left { λ r. ⌜ now (room .exit) ≡ leaves (now (day .entry)) (now (clearing .entry)) r (now (room .entry)) ⌝ }
 {
@@ -34,8 +44,7 @@ fn from_room(day: &[u8], clearing: &[u8], counts: Counts, room: &mut [u8]) -> Ou
             },
         );
     }
-    let totals = totals::totals_of(day, clearing, counts);
-    statement::put_statement(&mut room[0..n], day, clearing, counts, totals);
+    statement::put_statement(&mut room[0..n], counts, totals, nets);
     Outcome::Accepted(totals)
 }
 
@@ -44,9 +53,20 @@ fn from_rules(day: &[u8], clearing: &[u8], counts: Counts, room: &mut [u8]) -> O
     ensures said { λ r. ⌜ r ≡ fromRules (now (day .entry)) (now (clearing .entry)) (length (now (room .entry))) ⌝ }
     ensures left { λ r. ⌜ now (room .exit) ≡ leaves (now (day .entry)) (now (clearing .entry)) r (now (room .entry)) ⌝ }
 {
-    match rules::first_fault(day, clearing, counts) {
+    let mut nets = [0i64; 200];
+    let mut flows = [0i64; 200];
+    totals::gather_nets(day, clearing, counts, &mut nets);
+    totals::gather_flows(day, clearing, counts, &mut flows);
+    match rules::first_fault(day, clearing, counts, &nets, &flows) {
         Fault::Broken(number, place) => Outcome::Refused(number, place),
-        Fault::Clean => from_room(day, clearing, counts, room),
+        Fault::Clean => from_room(
+            day,
+            clearing,
+            counts,
+            totals::totals_of(day, clearing, counts),
+            &nets,
+            room,
+        ),
     }
 }
 

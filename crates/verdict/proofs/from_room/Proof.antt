@@ -1,10 +1,11 @@
 -- `verdict::from_room` meets its contract. Assumes nothing.
 use Prim.Native.Nat.{_-_}
-use mathlib.Core.Path.{refl}
+use mathlib.Core.Path.{refl, _∙_}
 use native.Mathlib.Omega.{arith}
 use lib.Seq.{length-take-le}
 use denote.Ref.{now}
 use borrow.Author.Needs.{needs}
+use Rattle.statement.specs.Of.{table-fits, table-statement}
 use Rattle.verdict.specs.Steps.{too-short, long-enough, left-in}
 use Rattle.verdict.proofs.from_room.Statement.{statement}
 use Rattle.verdict.proofs.from_room.Tie as tie
@@ -15,10 +16,7 @@ statement-length-requires c κs = search needs
 returns : tie.Need-returns
 returns c =
     let s = c .before .before .before .before .before in
-    (too-short (s .pre .of-files) _ (rw (c .before .statement-length .ensures) at (c .if1 .taken)), refl)
-
-totals-of-requires : tie.Need-totals-of-requires
-totals-of-requires c κs = search needs
+    (too-short (s .pre .0 .of-files) _ (rw (c .before .statement-length .ensures) at (c .if1 .taken)), refl)
 
 sub-put-statement : tie.Need-sub-put-statement
 sub-put-statement c = search needs
@@ -31,24 +29,28 @@ part-put-statement-end c = search needs
 
 put-statement-requires : tie.Need-put-statement-requires
 put-statement-requires c κs =
-    let else = c .before .before in
-    let s = c .before .before .before .before .before .before .before in
-    let lent = length-take-le _ (now (s .args .room)) (else .if1 .left) in
-    ((s .pre .of-files, omega (arith, lent, else .before .statement-length .ensures)), s .pre .lawful .balance-rule)
+    let else = c .before in
+    let s = else .before .before .before .before .before in
+    let o = s .pre .0 .of-files in
+    let nets = s .pre .1 .1 in
+    let lent = length-take-le _ (now (s .args .room)) (else .if1 .left) in (
+      (o .of-clearing .limits, omega (arith, lent, else .before .statement-length .ensures)),
+      (nets .long, table-fits o nets (s .pre .0 .lawful .balance-rule)),
+    )
 
 same-length : tie.Need-same-length
 same-length c = search needs
 
 returns-2 : tie.Need-returns-2
 returns-2 c =
-    let totals = c .before .before .before .before in
-    let else = totals .before in
-    let s = c .before .before .before .before .before .before .before .before .before .before in
-    let o = s .pre .of-files in
+    let else = c .before .before .before .before in
+    let s = else .before .before .before .before .before in
+    let o = s .pre .0 .of-files in
+    let totals = s .pre .1 .0 in
     let n = else .before .statement-length in (
-      long-enough o _ (rw (n .ensures) at (else .if1 .left)) (totals .totals-of .ensures),
-      left-in o (now (s .args .room)) _ (n .result - 0) (omega (arith, n .ensures)) (omega (arith, else .if1 .left)) (totals .totals-of .ensures)
-          (c .before .before .put-statement .ensures),
+      long-enough o _ (rw (n .ensures) at (else .if1 .left)) totals,
+      left-in o (now (s .args .room)) _ (n .result - 0) (omega (arith, n .ensures)) (omega (arith, else .if1 .left)) totals
+          (c .before .before .put-statement .ensures ∙ rw (table-statement o (s .pre .1 .1) (s .args .totals))),
     )
 
 pub from-room-spec : {M : Type 1} → statement M
@@ -57,7 +59,6 @@ from-room-spec =
     (tie.spec
     statement-length-requires
     returns
-    totals-of-requires
     sub-put-statement
     part-put-statement-start
     part-put-statement-end
