@@ -7,14 +7,14 @@ use mathlib.Core.Path.{_≡_, refl, sym, ap, subst, _∙_}
 use mathlib.Core.Bool.{true}
 use mathlib.Core.List.{List}
 use lib.IntN.{ℤ, pos, natAbs, _+ℤ_, _-ℤ_, +ℤ-idl}
-use lib.ListN.{length, getD, replicate, getD-replicate}
+use lib.ListN.{length, getD, replicate, length-replicate, getD-replicate}
 use mir.Syntax.{w64}
 use mir.Val.{SFits}
 use Rattle.whole.specs.Whole.{sum, at}
 use Rattle.whole.specs.Ring.{linear}
 use Rattle.whole.specs.Sums.{sum-zero, sum-cong}
 use Rattle.whole.specs.Size.{fits-i64, abs-le, abs-+, abs--, abs-*-≤, at-size, sum-within}
-use Rattle.limits.specs.Limits.{mostFlow}
+use Rattle.limits.specs.Limits.{mostPrice, mostFlow}
 use Rattle.cells.specs.Cells.{Tabled, Gained, Within, within-gained, buyers, sellers, rent, traded, shortfall, none-tabled, tabled-gained, same-tabled}
 use Rattle.market.specs.Market as market
 use Rattle.market.specs.Market.{Day, Choice, Prices, netPosition, leaving, entering, totals, buyerSurplus, sellerSurplus, tradedVolume, rentAt, missed}
@@ -30,7 +30,7 @@ use Rattle.market.specs.declared.Measure.the-variants.{Buyers, Sellers, Traded,
 use Rattle.wire.specs.Bytes.{i32At}
 use Rattle.rows.specs.Rows.{rowStart}
 use Rattle.rows.specs.declared.Kind.the-variants as kinds
-use Rattle.rows.specs.Sentences.{IsPrice, IsFlow, line-row, step-row, block-row, price-row, flow-row, volume-row, ratio-row}
+use Rattle.rows.specs.Sentences.{IsPrice, IsFlow, period-row, line-row, step-row, block-row, price-row, flow-row, volume-row, ratio-row}
 use Rattle.day.specs.declared.Counts.{Counts}
 use Rattle.day.specs.Day.{counts}
 use Rattle.day.specs.Good.{GoodDay, InLimits, prices-most}
@@ -38,7 +38,7 @@ use Rattle.day.specs.Frame.{good-day}
 use Rattle.clearing.specs.Clearing.{flowsPart, volumesPart, ratiosPart}
 use Rattle.clearing.specs.Good.{GoodClearing}
 use Rattle.clearing.specs.Frame.{good-clearing}
-use Rattle.book.specs.Book.{lineOf, dayOf, pricesOf, choiceOf, volumeOf, ratioOf, flowOf, stepOf}
+use Rattle.book.specs.Book.{floorOf, ceilingOf, lineOf, dayOf, pricesOf, choiceOf, volumeOf, ratioOf, flowOf, stepOf}
 use Rattle.book.specs.Of.{OfFiles, cell-below as cell-in}
 use Rattle.book.specs.Ranges.{placed, ranged}
 use Rattle.book.specs.Framed.{PricesSmall}
@@ -47,6 +47,7 @@ use Rattle.lines.specs.Sure.{SurePrice, SureLine, LinesCounted, lineGives}
 use Rattle.steps.specs.Sure.{SureStep, StepsCounted, counted, brings, gives}
 use Rattle.steps.specs.Count.{brings-size, gives-size}
 use Rattle.blocks.specs.Sure.{SureBlock, BlocksCounted, blockGives}
+use Rattle.walk.specs.Walked.{Walked}
 
 -- ---- all rows are sure
 
@@ -186,14 +187,30 @@ module _ (c : Counts) (day clearing : List ℕ) where
           ∙ simp linear (omega arith);
     }
 
+-- ---- before the rows
+
+-- floors and ceilings within their limits, by the rows of the periods
+pub bounds-good : {day clearing : List ℕ} {c : Counts} → Opened day clearing c → (h : ℕ) → h < c .periods → IsPrice (floorOf day h) × IsPrice (ceilingOf day h)
+unfolding floorOf ceilingOf
+bounds-good {day} o h l =
+    let row = period-row 0 0 day h .0 (o .periods-good .rows h (rw (ap (λ (k : Counts). k .periods) (o .framed .of-day .counted)) l)) in
+    (row .floor-is, row .ceiling-is)
+
+-- and so the prices
+pub prices-near : {day clearing : List ℕ} {c : Counts} → ((z h : ℕ) → z < c .zones → h < c .periods → SurePrice c day clearing z h) → PricesSmall c clearing
+prices-near {clearing = clearing} {c} p z h l k = abs-le (pricesOf c clearing z h) mostPrice .1 (p z h l k .price-is .low, p z h l k .price-is .high)
+
 -- ---- how much the tables hold on the way
 
 -- from zeros
-pub none-within : {zones periods : ℕ} {table : List ℤ} → Tabled zones periods (λ _ _. pos 0) table → Within zones periods 0 table
-none-within t z h l k = rw (t .each z h l k) (omega arith)
+pub zeros-long : {n : ℕ} {table : List ℤ} → table ≡ replicate n (pos 0) → length table ≡ n
+zeros-long {n} e = rw e (length-replicate n (pos 0))
 
-pub no-sum-within : {sums : List ℤ} → sums ≡ replicate 5 (pos 0) → Within 1 5 0 sums
-no-sum-within {sums} e z k l j =
+pub none-within : {c : Counts} → InLimits c → {table : List ℤ} → table ≡ replicate 200 (pos 0) → (bound : ℕ) → Within (c .zones) (c .periods) bound table
+none-within {c} limits e bound z h l k = rw (e, none-tabled (prices-most limits) .each z h l k) (omega arith)
+
+pub no-sum-within : {sums : List ℤ} → sums ≡ replicate 5 (pos 0) → (bound : ℕ) → Within 1 5 bound sums
+no-sum-within {sums} e bound z k l j =
     let none : z ≡ 0 = omega (arith, l) in
     rw (none, zero-add k, e, getD-replicate 5 k (pos 0) (pos 0) j) (omega arith)
 
@@ -297,3 +314,42 @@ module _ {day clearing : List ℕ} {c : Counts} (o : OfFiles day clearing c) {su
         sellers-size,
         rent-size,
       ))
+
+-- what is known of the rows when they are counted
+pub record RowsCounted (c : Counts) (day clearing : List ℕ) (nets sums : List ℤ) : Type 0 where
+  pub lines : (l : ℕ) → l < c .lines → SureLine c day clearing l
+  pub steps : (i : ℕ) → i < c .steps → SureStep c day clearing i
+  pub blocks : (k : ℕ) → k < c .blocks → SureBlock c day clearing k
+  pub nets-are : Tabled (c .zones) (c .periods) (netPosition (dayOf c day) (choiceOf c clearing)) nets
+  pub sums-long : length sums ≡ 5
+  pub sums-are : SumsAre c day clearing sums
+  pub balanced : Balanced (dayOf c day) (choiceOf c clearing)
+
+pub rows-counted : (c : Counts) (day clearing : List ℕ) {f0 flows s0 s1 n0 n1 s2 n2 s3 : List ℤ} → InLimits c →
+    f0 ≡ replicate 200 (pos 0) → n0 ≡ replicate 200 (pos 0) → s0 ≡ replicate 5 (pos 0) →
+    LinesCounted c day clearing f0 flows s0 s1 → StepsCounted c day clearing (c .steps) n0 n1 s1 s2 → BlocksCounted c day clearing n1 n2 s2 s3 →
+    ((k : ℕ) → k < c .zones * c .periods → getD n2 k (pos 0) ≡ getD flows k (pos 0)) → RowsCounted c day clearing n2 s3
+rows-counted c day clearing limits f n s lines steps blocks same =
+    let small = prices-most limits in
+    let nets-are = nets-gathered c day clearing lines steps blocks small (rw n (none-tabled small)) in
+    record {
+      lines = lines .sure;
+      steps = steps .sure;
+      blocks = blocks .sure;
+      nets-are = nets-are;
+      sums-long = blocks .sums .long ∙ steps .sums-gain .long ∙ lines .sums .long ∙ rw s (length-replicate 5 (pos 0));
+      sums-are = sums-gathered c day clearing lines steps blocks s;
+      balanced = balanced-is day clearing c nets-are (flows-gathered c day clearing lines steps blocks small (rw f (none-tabled small))) same;
+    }
+
+pub all-walked : {c : Counts} {day clearing : List ℕ} {nets sums : List ℤ} → Opened day clearing c →
+    ((z h : ℕ) → z < c .zones → h < c .periods → SurePrice c day clearing z h) → RowsCounted c day clearing nets sums →
+    {t : Totals} → t ≡ totalsIn sums → Walked day clearing c t nets
+all-walked {c} {day} {clearing} o p r e =
+    let a : AllSure day clearing c = record { opened = o; prices = p; lines = r .lines; steps = r .steps; blocks = r .blocks } in
+    record {
+      of-files = files-are a;
+      lawful = lawful-but a (r .balanced);
+      totals-are = e ∙ totals-made (files-are a) (r .sums-are) (r .balanced);
+      nets-are = r .nets-are;
+    }
