@@ -16,7 +16,7 @@ use Rattle.market.specs.declared.Totals.{Totals}
 use Rattle.day.specs.declared.Counts.{Counts}
 use Rattle.day.specs.Day.{counts}
 use Rattle.clearing.specs.Clearing.{fileStages, files}
-use Rattle.clearing.specs.Good.{good-files}
+use Rattle.clearing.specs.Good.{GoodClearing, files-clean, good-files}
 use Rattle.clearing.specs.declared.Files.the-variants.{Good}
 use Rattle.book.specs.Book as book
 use Rattle.book.specs.Of.{OfFiles, of-files}
@@ -80,6 +80,9 @@ module _ {day clearing : List ℕ} {c : Counts} (o : OfFiles day clearing c) whe
   in-hand : (P : Counts → Type 0) → P (counts day) → P c
   in-hand P = subst P (o .of-day .counted)
 
+  own-clearing : GoodClearing (counts day) clearing
+  own-clearing = subst (λ (k : Counts). GoodClearing k clearing) (sym (o .of-day .counted)) (o .good-clearing)
+
   pub rules-same : {f : Fault} → f ≡ firstFault (rules.stages c day clearing) → f ≡ firstFault (rulesOf day clearing)
   rules-same {f} = in-hand (λ (k : Counts). f ≡ firstFault (rules.stages k day clearing) → f ≡ firstFault (rulesOf day clearing)) (λ e. e)
 
@@ -89,6 +92,13 @@ module _ {day clearing : List ℕ} {c : Counts} (o : OfFiles day clearing c) whe
     lawful = lawful-is (book.dayOf c day) (book.pricesOf c clearing) (book.choiceOf c clearing) .0
         (means (rules.stages c day clearing) Clean .0 (sym e));
   }
+
+  -- where the rules hold, the room decides
+  pub past-all : Lawful (book.dayOf c day) (book.pricesOf c clearing) (book.choiceOf c clearing) → (room : ℕ) → fromRoom day clearing room ≡ verdict day clearing room
+  past-all lawful room =
+      past-the-rules day clearing room
+      (rules-same (sym (means (rules.stages c day clearing) Clean .1 (lawful-is (book.dayOf c day) (book.pricesOf c clearing) (book.choiceOf c clearing) .1 lawful))))
+      ∙ past-the-files day clearing room (sym (means (fileStages day clearing) Clean .1 (files-clean day clearing .1 (o .good-day, own-clearing))))
 
   -- the room, and what is left in it
   pub too-short : (room : ℕ) → room < statementLength (netCount c) → Refused 18 (place 0 0) ≡ fromRoom day clearing room

@@ -5,6 +5,7 @@ use day::Counts;
 use market::Totals;
 use stages::Fault;
 use stages::Place;
+use walk::Walk;
 ghost use mathlib.Core.Path.{_≡_};
 ghost use lib.ListN.{length};
 ghost use Rattle.cells.specs.Cells.{Tabled};
@@ -70,13 +71,26 @@ fn from_rules(day: &[u8], clearing: &[u8], counts: Counts, room: &mut [u8]) -> O
     }
 }
 
-// Judges any two byte strings.
-pub fn check(day: &[u8], clearing: &[u8], room: &mut [u8]) -> Outcome
+// The first fault in the paper's order, where there is one.
+fn in_order(day: &[u8], clearing: &[u8], room: &mut [u8]) -> Outcome
     ensures { λ r. ⌜ Checked (now (day .entry)) (now (clearing .entry)) (now (room .entry)) r (now (room .exit)) ⌝ }
 {
     match clearing::read_files(day, clearing) {
         Files::Bad(number, place) => Outcome::Refused(number, place),
         Files::Good(counts) => from_rules(day, clearing, counts, room),
+    }
+}
+
+// ---- the verdict
+
+// Judges any two byte strings: in one walk where nothing is broken, and in order at any doubt.
+pub fn check(day: &[u8], clearing: &[u8], room: &mut [u8]) -> Outcome
+    ensures { λ r. ⌜ Checked (now (day .entry)) (now (clearing .entry)) (now (room .entry)) r (now (room .exit)) ⌝ }
+{
+    let mut nets = [0i64; 200];
+    match walk::walk_files(day, clearing, &mut nets) {
+        Walk::Sure(counts, totals) => from_room(day, clearing, counts, totals, &nets, room),
+        Walk::Doubt => in_order(day, clearing, room),
     }
 }
 
