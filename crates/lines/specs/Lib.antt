@@ -1,4 +1,6 @@
 -- What is meant: prices, lines and flows of which nothing is broken, and what they count.
 pub mod Sure
--- What one flow and one line count, and that they fit; and the laws by which the loops go on.
+-- What is asked and told on the way there: of one flow, one line, the first n lines.
 pub mod Counted
+-- The laws by which the loops go on.
+pub mod CountLaws

@@ -8,7 +8,8 @@ use mir.Syntax.{w64}
 use mir.Val.{toZ}
 use borrow.Author.Needs.{needs}
 use Rattle.whole.specs.Size.{same}
-use Rattle.lines.specs.Counted.{Below, none-below, more-below, all-below, doubt}
+use Rattle.lines.specs.Counted.{Below}
+use Rattle.lines.specs.CountLaws.{none-below, more-below, all-below, doubt}
 use Rattle.lines.proofs.balanced.Statement.{statement}
 use Rattle.lines.proofs.balanced.Tie as tie
 
@@ -45,8 +46,11 @@ loop-less c = search needs
 loop-again : tie.Need-loop-again Inv-loop μ-loop
 loop-again c =
     let flow = c .before in
-    let net = flow .before in
-    (omega arith, more-below (net .before .before .loop .inv .1) (sym (same _ (net .if12 .given)) ∙ ap (toZ w64) (c .if1 .left) ∙ same _ (flow .if13 .given)))
+    let net = flow .before in (
+      omega arith,
+      more-below (net .before .before .loop .inv .1)
+          (sym (same _ (net .if12 .given)) ∙ ap (toZ w64) (c .if1 .left) ∙ same _ (flow .if13 .given)),
+    )
 
 returns-2 : tie.Need-returns-2 Inv-loop μ-loop
 returns-2 c = λ _. all-below (c .before .loop .inv .1) (c .loop-test .left) .each

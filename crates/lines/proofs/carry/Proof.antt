@@ -6,7 +6,7 @@ use mir.Val.{toZ, ofZ}
 use mir.ValLaws.{toZ-ofZ}
 use borrow.Author.Needs.{needs}
 use Rattle.whole.specs.Size.{same}
-use Rattle.lines.specs.Counted.{cell-is, from-fits, to-fits, both-gained}
+use Rattle.lines.specs.CountLaws.{cell-is, from-fits, to-fits, both-gained}
 use Rattle.lines.proofs.carry.Statement.{statement}
 use Rattle.lines.proofs.carry.Tie as tie
 
@@ -36,7 +36,8 @@ add-at-requires-2 c κs =
     let first = c .before .before in
     let n = first .before .before in
     let s = n .before .before .before in
-    to-fits (s .pre) (n .before .before .cell .ensures) (toZ-ofZ w64 (s .args .flow) (s .fits .flow)) (first .add-at .ensures) (n .before .cell2 .ensures) (opposite-is n)
+    to-fits (s .pre) (n .before .before .cell .ensures) (toZ-ofZ w64 (s .args .flow) (s .fits .flow)) (first .add-at .ensures)
+    (n .before .cell2 .ensures) (opposite-is n)
 
 same-length : tie.Need-same-length
 same-length c = search needs
@@ -47,7 +48,8 @@ returns c =
     let first = second .before .before .before in
     let n = first .before .before in
     let s = n .before .before .before in
-    both-gained (s .pre) (n .before .before .cell .ensures) (toZ-ofZ w64 (s .args .flow) (s .fits .flow)) (first .add-at .ensures) (n .before .cell2 .ensures) (opposite-is n) (second .add-at2 .ensures)
+    both-gained (s .pre) (n .before .before .cell .ensures) (toZ-ofZ w64 (s .args .flow) (s .fits .flow)) (first .add-at .ensures)
+    (n .before .cell2 .ensures) (opposite-is n) (second .add-at2 .ensures)
 
 pub carry-spec : {M : Type 1} → statement M
 carry-spec =

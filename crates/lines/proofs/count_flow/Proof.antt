@@ -7,7 +7,8 @@ use borrow.Author.Tests.{not-false}
 use denote.Ref.{now}
 use Rattle.whole.specs.Size.{same}
 use Rattle.book.specs.Book.{flowOf, pricesOf}
-use Rattle.lines.specs.Counted.{FlowSure, doubt, rent-asks, rent-fits, flow-carries, flow-counted}
+use Rattle.lines.specs.Counted.{FlowSure}
+use Rattle.lines.specs.CountLaws.{doubt, rent-asks, rent-fits, flow-carries, flow-counted}
 use Rattle.lines.proofs.count_flow.Statement.{statement}
 use Rattle.lines.proofs.count_flow.Tie as tie
 
@@ -40,7 +41,8 @@ to-is : (c : tie.After-price-of2) → let a = c .before .before .before .before 
 to-is c = same (c .price-of2 .result) (c .price-of2 .ok) ∙ c .price-of2 .ensures
 
 sure : (c : tie.Else1) → let t = c .before .before in let f = t .before in let a = f .before .before .before .args in
-    FlowSure (a .forward) (a .back) (toZ w64 (ofZ w64 (f .price-of .result))) (toZ w64 (ofZ w64 (t .price-of2 .result))) (toZ w64 (ofZ w64 (f .before .flow-of .result)))
+    FlowSure (a .forward) (a .back) (toZ w64 (ofZ w64 (f .price-of .result))) (toZ w64 (ofZ w64 (t .price-of2 .result)))
+    (toZ w64 (ofZ w64 (f .before .flow-of .result)))
 sure c = c .before .flow-sure .ensures (not-false _ (c .if1 .left))
 
 rent-requires : tie.Need-rent-requires
@@ -55,7 +57,8 @@ add-at-requires c κs =
     let e = c .before .before in
     let t = e .before .before in
     let f = t .before in
-    rent-fits (f .before .before .before .pre) (flow-is (f .before)) (from-is f) (to-is t) (sure e) (same (c .rent .result) (c .rent .ok) ∙ c .rent .ensures)
+    rent-fits (f .before .before .before .pre) (flow-is (f .before)) (from-is f) (to-is t) (sure e)
+    (same (c .rent .result) (c .rent .ok) ∙ c .rent .ensures)
 
 carry-requires : tie.Need-carry-requires
 carry-requires c κs =

@@ -7,7 +7,8 @@ use borrow.Author.Tests.{not-false}
 use denote.Ref.{now}
 use Rattle.limits.specs.Limits.{mostPeriods}
 use Rattle.book.specs.Book.{lineAt}
-use Rattle.lines.specs.Counted.{EndsSure, PeriodsCounted, doubt, ends-sure, no-period, period-asks, period-counted, line-counted}
+use Rattle.lines.specs.Counted.{EndsSure, PeriodsCounted}
+use Rattle.lines.specs.CountLaws.{doubt, ends-sure, no-period, period-asks, period-counted, line-counted}
 use Rattle.lines.proofs.count_line.Statement.{statement}
 use Rattle.lines.proofs.count_line.Tie as tie
 
@@ -25,18 +26,22 @@ returns : tie.Need-returns Inv-loop μ-loop
 returns c = doubt
 
 -- the line's ends, which are passed on, and that they are sure
-ends-are : (c : tie.Else1 Inv-loop μ-loop) → let n = c .before .before .before .before .before .before in let a = n .before .before .before .args in
+ends-are : (c : tie.Else1 Inv-loop μ-loop) →
+    let n = c .before .before .before .before .before .before in
+    let a = n .before .before .before .args in
     n .line-at .result ≡ lineAt (now (a .part)) (a .at)
 ends-are c = c .before .before .before .before .before .before .line-at .ensures
 
-sure-ends : (c : tie.Else1 Inv-loop μ-loop) → let a = c .before .before .before .before .before .before .before .before .before .args in
+sure-ends : (c : tie.Else1 Inv-loop μ-loop) →
+    let a = c .before .before .before .before .before .before .before .before .before .args in
     EndsSure (a .counts) (now (a .part)) (a .at)
 sure-ends c = ends-sure (ends-are c) (not-false _ (c .if1 .left))
 
 loop-holds : tie.Need-loop-holds Inv-loop μ-loop
 loop-holds c = no-period
 
-few : (c : tie.Else1 Inv-loop μ-loop) → c .before .before .before .before .before .before .before .before .before .args .counts .periods ≤ mostPeriods
+few : (c : tie.Else1 Inv-loop μ-loop) →
+    c .before .before .before .before .before .before .before .before .before .args .counts .periods ≤ mostPeriods
 few c = c .before .before .before .before .before .before .before .before .before .pre .of-clearing .limits .periods-most
 
 add-u32-at : tie.Need-add-u32-at Inv-loop μ-loop
@@ -92,8 +97,8 @@ loop-again c =
     let i = b .before .before in
     let e = i .before .before in
     let s = e .before .before .before .before .before .before .before .before .before in
-    period-counted (sure-ends e) (i .before .loop .inv) (s .pre) (i .loop-test .taken) (ends-are e) (b .before .u32-at .ensures) (b .u32-at2 .ensures)
-    (f .count-flow .ensures (not-false _ (c .if2 .left)))
+    period-counted (sure-ends e) (i .before .loop .inv) (s .pre) (i .loop-test .taken) (ends-are e)
+    (b .before .u32-at .ensures) (b .u32-at2 .ensures) (f .count-flow .ensures (not-false _ (c .if2 .left)))
 
 same-length-3 : tie.Need-same-length-3 Inv-loop μ-loop
 same-length-3 c = search needs

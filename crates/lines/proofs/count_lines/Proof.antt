@@ -4,7 +4,8 @@ use borrow.Author.Needs.{needs}
 use borrow.Author.Tests.{not-false}
 use denote.Ref.{now}
 use Rattle.book.specs.DayRows.{line-starts}
-use Rattle.lines.specs.Counted.{LinesAsk, LinesSoFar, doubt, no-line, line-asks, next-line, lines-counted}
+use Rattle.lines.specs.Counted.{LinesAsk, LinesSoFar}
+use Rattle.lines.specs.CountLaws.{doubt, no-line, line-asks, next-line, lines-counted}
 use Rattle.lines.proofs.count_lines.Statement.{statement}
 use Rattle.lines.proofs.count_lines.Tie as tie
 
@@ -15,7 +16,8 @@ abbrev μ-loop : tie.MeasureT-loop
 μ-loop day clearing counts flows₀ sums₀ part line₀ line-end flows sums line = counts .lines - line
 
 -- what is asked, in one
-asks : (c : tie.Start Inv-loop μ-loop) → let a = c .args in LinesAsk (a .counts) (now (a .day)) (now (a .clearing)) (now (a .flows)) (now (a .sums))
+asks : (c : tie.Start Inv-loop μ-loop) → let a = c .args in
+    LinesAsk (a .counts) (now (a .day)) (now (a .clearing)) (now (a .flows)) (now (a .sums))
 asks c = record {
   framed = c .pre .0 .0;
   prices = c .pre .0 .1;
@@ -39,7 +41,8 @@ count-line-requires c κs =
     let r = c .before .before in
     let i = r .before in
     let n = i .before .before in
-    line-asks (i .before .loop .inv) (asks (n .before .before .before)) (i .loop-test .taken) (n .lines-part .ensures .0) (r .row-start .ensures .0) (r .row-start .ensures .1)
+    line-asks (i .before .loop .inv) (asks (n .before .before .before)) (i .loop-test .taken) (n .lines-part .ensures .0)
+    (r .row-start .ensures .0) (r .row-start .ensures .1)
 
 same-length : tie.Need-same-length Inv-loop μ-loop
 same-length c = search needs
@@ -62,8 +65,8 @@ loop-again c =
     let r = l .before .before .before in
     let i = r .before in
     let n = i .before .before in
-    next-line (i .before .loop .inv) (asks (n .before .before .before)) (i .loop-test .taken) (n .lines-part .ensures .0) (r .row-start .ensures .0)
-    (l .count-line .ensures (not-false _ (c .if1 .left)))
+    next-line (i .before .loop .inv) (asks (n .before .before .before)) (i .loop-test .taken) (n .lines-part .ensures .0)
+    (r .row-start .ensures .0) (l .count-line .ensures (not-false _ (c .if1 .left)))
 
 same-length-3 : tie.Need-same-length-3 Inv-loop μ-loop
 same-length-3 c = search needs

@@ -11,7 +11,7 @@ use borrow.Author.Tests.{not-false}
 use Rattle.whole.specs.Size.{same}
 use Rattle.stages.specs.First.{both, leb-is}
 use Rattle.limits.specs.Limits.{mostVolume}
-use Rattle.lines.specs.Counted.{doubt}
+use Rattle.lines.specs.CountLaws.{doubt}
 use Rattle.lines.proofs.flow_sure.Statement.{statement}
 use Rattle.lines.proofs.flow_sure.Tie as tie
 
@@ -49,14 +49,17 @@ returns-3 c e =
     let negative = test .before .before in
     let wide = negative .before in
     let start = wide .before .before in
-    let flow = toZ-ofZ w64 (start .before .args .flow) (start .before .fits .flow) in
+    let a = start .before .args in
+    let fits = start .before .fits in
+    let flow = toZ-ofZ w64 (a .flow) (fits .flow) in
     let most = same (wide .before .wide .result) (wide .before .wide .ok) ∙ wide .before .wide .ensures in
-    let least = same (negative .negative .result) (negative .negative .ok) ∙ negative .negative .ensures ∙ ap negℤ (same (wide .wide2 .result) (wide .wide2 .ok) ∙ wide .wide2 .ensures) in
+    let least = same (negative .negative .result) (negative .negative .ok) ∙ negative .negative .ensures
+    ∙ ap negℤ (same (wide .wide2 .result) (wide .wide2 .ok) ∙ wide .wide2 .ensures) in
     record {
       forward-is = within start .0;
       back-is = within start .1;
       between = rw (flow, most, least) at (sym (test .before .between .ensures) ∙ not-false _ (test .if2 .left));
-      full = rw (flow, most, least, toZ-ofZ w64 (start .before .args .from) (start .before .fits .from), toZ-ofZ w64 (start .before .args .to) (start .before .fits .to)) at (c .full .ensures e);
+      full = rw (flow, most, least, toZ-ofZ w64 (a .from) (fits .from), toZ-ofZ w64 (a .to) (fits .to)) at (c .full .ensures e);
     }
 
 pub flow-sure-spec : {M : Type 1} → statement M

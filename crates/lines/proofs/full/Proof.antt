@@ -3,7 +3,7 @@ use native.Mathlib.Omega.{arith}
 use mir.Syntax.{w64}
 use mir.ValLaws.{toZ-ofZ}
 use Rattle.whole.specs.Ring.{given, linear}
-use Rattle.lines.specs.Counted.{bits-same, to-dearer, to-cheaper, to-as-dear}
+use Rattle.lines.specs.CountLaws.{bits-same, to-dearer, to-cheaper, to-as-dear}
 use Rattle.lines.proofs.full.Statement.{statement}
 use Rattle.lines.proofs.full.Tie as tie
 

@@ -9,7 +9,8 @@ use borrow.Author.Needs.{needs}
 use borrow.Author.Tests.{not-false}
 use Rattle.whole.specs.Size.{same}
 use Rattle.book.specs.Book.{pricesOf}
-use Rattle.lines.specs.Counted.{Below, Between, none-below, more-below, all-below, doubt}
+use Rattle.lines.specs.Counted.{Below, Between}
+use Rattle.lines.specs.CountLaws.{none-below, more-below, all-below, doubt}
 use Rattle.lines.proofs.period_sure.Statement.{statement}
 use Rattle.lines.proofs.period_sure.Tie as tie
 
@@ -44,13 +45,16 @@ loop-again c =
     let price = test .before in (
       omega arith,
       more-below (price .before .before .loop .inv .1)
-          (rw (← price .price-of .ensures, ← same (price .price-of .result) (price .price-of .ok)) (sym (test .between .ensures) ∙ not-false _ (c .if1 .left))),
+          (rw (← price .price-of .ensures, ← same (price .price-of .result) (price .price-of .ok))
+          (sym (test .between .ensures) ∙ not-false _ (c .if1 .left))),
     )
 
 returns-2 : tie.Need-returns-2 Inv-loop μ-loop
 returns-2 c = λ _.
     let s = c .before .before .before in
-    all-below (rw (toZ-ofZ w64 (s .args .floor) (s .fits .floor), toZ-ofZ w64 (s .args .ceiling) (s .fits .ceiling)) at (c .before .loop .inv .1)) (c .loop-test .left)
+    let floor = toZ-ofZ w64 (s .args .floor) (s .fits .floor) in
+    let ceiling = toZ-ofZ w64 (s .args .ceiling) (s .fits .ceiling) in
+    all-below (rw (floor, ceiling) at (c .before .loop .inv .1)) (c .loop-test .left)
 
 pub period-sure-spec : {M : Type 1} → statement M
 period-sure-spec =

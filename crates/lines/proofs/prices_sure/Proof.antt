@@ -6,7 +6,8 @@ use borrow.Author.Needs.{needs}
 use borrow.Author.Tests.{not-false}
 use Rattle.whole.specs.Size.{same}
 use Rattle.book.specs.Book.{floorOf, ceilingOf, pricesOf}
-use Rattle.lines.specs.Counted.{Below, Between, none-below, more-below, all-below, doubt, sure-price}
+use Rattle.lines.specs.Counted.{Below, Between}
+use Rattle.lines.specs.CountLaws.{none-below, more-below, all-below, doubt, sure-price}
 use Rattle.lines.proofs.prices_sure.Statement.{statement}
 use Rattle.lines.proofs.prices_sure.Tie as tie
 
@@ -43,14 +44,18 @@ loop-again : tie.Need-loop-again Inv-loop μ-loop
 loop-again c =
     let test = c .before in
     let ceiling = test .before in
-    let floor = ceiling .before in (
+    let floor = ceiling .before in
+    let floor-is = same (floor .floor-of .result) (floor .floor-of .ok) ∙ floor .floor-of .ensures in
+    let ceiling-is = same (ceiling .ceiling-of .result) (ceiling .ceiling-of .ok) ∙ ceiling .ceiling-of .ensures in (
       omega arith,
       more-below (floor .before .before .loop .inv .1)
-          (rw (same (ceiling .ceiling-of .result) (ceiling .ceiling-of .ok) ∙ ceiling .ceiling-of .ensures, same (floor .floor-of .result) (floor .floor-of .ok) ∙ floor .floor-of .ensures) at (test .period-sure .ensures (not-false _ (c .if1 .left)))),
+          (rw (ceiling-is, floor-is) at (test .period-sure .ensures (not-false _ (c .if1 .left)))),
     )
 
 returns-2 : tie.Need-returns-2 Inv-loop μ-loop
-returns-2 c = λ _ z h l m. sure-price (c .before .before .before .before .pre .1 h m) (all-below (c .before .loop .inv .1) (c .loop-test .left) .each h m .each z l)
+returns-2 c = λ _ z h l m.
+    sure-price (c .before .before .before .before .pre .1 h m)
+    (all-below (c .before .loop .inv .1) (c .loop-test .left) .each h m .each z l)
 
 pub prices-sure-spec : {M : Type 1} → statement M
 prices-sure-spec =
