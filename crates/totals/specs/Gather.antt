@@ -3,7 +3,7 @@
 use Prim.Native.Nat.{ℕ, _+_, _*_, _≤_, _<_}
 use native.Mathlib.Nat.{le-refl, le-trans}
 use native.Mathlib.Omega.{arith}
-use mathlib.Core.Path.{_≡_, refl, sym, ap, _∙_}
+use mathlib.Core.Path.{_≡_, refl, sym, _∙_}
 use mathlib.Core.Bool.{Bool, true, false, cond}
 use mathlib.Core.List.{List}
 use lib.Dec.{eqb}
@@ -12,9 +12,9 @@ use lib.ListN.{getD}
 use mir.Syntax.{w64}
 use mir.Val.{SFits}
 use Rattle.whole.specs.Whole.{sum, at}
-use Rattle.whole.specs.Ring.{given, linear}
+use Rattle.whole.specs.Ring.{linear}
 use Rattle.whole.specs.Sums.{sum-next, sum-only, at-same, at-other}
-use Rattle.whole.specs.Size.{abs-+, abs-neg, at-size, sum-within, fits-i64}
+use Rattle.whole.specs.Size.{abs-+, at-size, sum-within, fits-i64}
 use Rattle.cells.specs.Cells.{added, Tabled, cell-below, more-tabled, same-tabled}
 use Rattle.limits.specs.Limits.{mostPeriods}
 use Rattle.market.specs.Measures.{bySide, measured, stepMeasured, blockMeasured}
@@ -30,7 +30,7 @@ use Rattle.book.specs.Of.{OfFiles}
 use Rattle.book.specs.Ranges.{placed, ranged}
 use Rattle.totals.specs.Sums.{stepTrade, blockTrade, oneStep, oneBlock, onePeriod, netPosition, lineLeaves, netFlow}
 
--- ---- what one trade brings to its zone and period, and what one flow
+-- ---- what one trade brings to its zone and period
 
 -- a sell brings its volume, a buy takes it away
 abbrev pub signed : Side → ℕ → ℤ
@@ -46,16 +46,6 @@ neg-at k x i = by (eqb i k)
     by : (b : Bool) → negℤ (cond b x (pos 0)) ≡ cond b (negℤ x) (pos 0)
     by true = refl
     by false = refl
-
-nothing : (from to i : ℕ) → at from (pos 0) i -ℤ at to (pos 0) i ≡ pos 0
-unfolding at
-nothing from to i = by (eqb i from) (eqb i to)
-  where
-    by : (a b : Bool) → cond a (pos 0) (pos 0) -ℤ cond b (pos 0) (pos 0) ≡ pos 0
-    by true true = refl
-    by true false = refl
-    by false true = refl
-    by false false = refl
 
 -- what is counted of a trade in a zone and period is what it brings, where these are its own
 net-brings : (zone period : ℕ) (price : ℤ) (t : Trade) → measured (Net zone period) price t ≡ at (t .zone) (at (t .period) (brings t) period) zone
@@ -118,11 +108,13 @@ module _ {zones periods : ℕ} (most : zones * periods ≤ 200) {f g : ℕ → �
   next-below = cell-below most (n .zone-is) (n .period-is)
 
   module _ {table : List ℤ} (t : Tabled zones periods f table) where
+    here : getD table (zone * periods + period) (pos 0) +ℤ x ≡ g zone period
+    here =
+        rw (t .each zone period (n .zone-is) (n .period-is))
+        (rw (at-same, at-same) at (n .more zone period (n .zone-is) (n .period-is)))
+
     pub next-fits : SFits w64 (getD table (zone * periods + period) (pos 0) +ℤ x)
-    next-fits =
-        let here : f zone period +ℤ x ≡ g zone period =
-        rw (at-same, at-same) at (n .more zone period (n .zone-is) (n .period-is)) in
-        rw (t .each zone period (n .zone-is) (n .period-is), here) (fits-i64 (g zone period) (n .size))
+    next-fits = rw here (fits-i64 (g zone period) (n .size))
 
     pub next-tabled : Tabled zones periods g (added table (zone * periods + period) x)
     next-tabled = same-tabled most (more-tabled most t (n .zone-is) (n .period-is) x) (n .more)
@@ -223,19 +215,21 @@ module _ {day clearing : List ℕ} {c : Counts} (o : OfFiles day clearing c) whe
       same-tabled cells-most t (λ z h _ _. sym (accepted-is d p k (Net z h)) ∙ net-is d p k z h)
 
   -- the lines
+  leaves-size : (l zone period h : ℕ) → l < c .lines → h < c .periods → natAbs (leaves c day clearing l zone period h) ≤ 2000000
+  leaves-size l zone period h i j =
+      let flow = flowOf c clearing l h in
+      net-flow-size (lineOf c day l .from) (lineOf c day l .to) zone (at h flow period) (le-trans (at-size h flow period) (ranged o .flow l h i j))
+
   flows-within : (l n zone period : ℕ) → l < c .lines → n ≤ c .periods → period < c .periods →
       natAbs (afterFlows c day clearing l n zone period) ≤ 82000000
   unfolding afterFlows afterLines
   flows-within l n zone period i j k =
       let p = placed o in
-      let one : (h : ℕ) → h < n → natAbs (leaves c day clearing l zone period h) ≤ 2000000 =
-      λ h m. net-flow-size (lineOf c day l .from) (lineOf c day l .to) zone (at h (flowOf c clearing l h) period)
-      (le-trans (at-size h (flowOf c clearing l h) period) (ranged o .flow l h i (le-trans m j))) in
       omega (
         arith,
         abs-+ (sum l (lineLeaves c day clearing zone period)) (sum n (leaves c day clearing l zone period)),
         flows-size _ _ _ p (ranged o) l zone period (below-most i) k,
-        sum-within n mostPeriods (leaves c day clearing l zone period) 2000000 (le-trans j (p .periods-most)) one,
+        sum-within n mostPeriods (leaves c day clearing l zone period) 2000000 (le-trans j (p .periods-most)) (λ h m. leaves-size l zone period h i (le-trans m j)),
       )
 
   pub from-next : {l h : ℕ} → l < c .lines → h < c .periods →
@@ -272,6 +266,17 @@ module _ {day clearing : List ℕ} {c : Counts} (o : OfFiles day clearing c) whe
   pub no-flow-yet : (l : ℕ) {table : List ℤ} → Holds (afterLines c day clearing l) table → Holds (afterFlows c day clearing l 0) table
   unfolding afterFlows sum
   no-flow-yet l t = same-tabled cells-most t (λ z h _ _. sym (+ℤ-idr _))
+
+  -- of the other periods nothing
+  nothing : (from to zone : ℕ) → at from (pos 0) zone -ℤ at to (pos 0) zone ≡ pos 0
+  unfolding at
+  nothing from to zone = by (eqb zone from) (eqb zone to)
+    where
+      by : (a b : Bool) → cond a (pos 0) (pos 0) -ℤ cond b (pos 0) (pos 0) ≡ pos 0
+      by true true = refl
+      by true false = refl
+      by false true = refl
+      by false false = refl
 
   -- in a period a line counts its flow of that period
   own-period : (z l : ℕ) {h : ℕ} → h < c .periods → sum (c .periods) (leaves c day clearing l z h) ≡ lineLeaves c day clearing z h l
