@@ -269,10 +269,16 @@ module _ {c : Counts} {day clearing : List ℕ} where
     module _ (many : n ≤ mostBlocks) (prices : PricesSmall c clearing) (few : c .periods ≤ mostPeriods) where
       pub nets-within : Within (c .zones) (c .periods) 1000000000000000000 nets₀ → Within (c .zones) (c .periods) 2000000000000000000 nets₁
       nets-within w z h l m =
-          omega (arith, within-gained (t .nets) {bound = 1000000000000000000} {more = 5000000000000000} w
-          (λ y i _ _. sum-within n mostBlocks (λ k. blockBrings c day clearing k y i) 50000000000000 many (λ k j. brings-small c day clearing k (t .sure k j) prices few y i)) z h l m)
+          omega (
+            arith,
+            within-gained (t .nets) {bound = 1000000000000000000} {more = 5000000000000000} w
+                (λ y i _ _. sum-within n mostBlocks (λ k. blockBrings c day clearing k y i) 50000000000000 many (λ k j. brings-small c day clearing k (t .sure k j) prices few y i)) z h l m,
+          )
 
       pub sums-within : Within 1 5 1000000000000000000 sums₀ → Within 1 5 2000000000000000000 sums₁
       sums-within w z h l m =
-          omega (arith, within-gained (t .sums) {bound = 1000000000000000000} {more = 25000000000000000} w
-          (λ _ i _ _. sum-within n mostBlocks (λ k. blockGives c day clearing k i) 250000000000000 many (λ k j. gives-small c day clearing k (t .sure k j) prices few i)) z h l m)
+          omega (
+            arith,
+            within-gained (t .sums) {bound = 1000000000000000000} {more = 25000000000000000} w
+                (λ _ i _ _. sum-within n mostBlocks (λ k. blockGives c day clearing k i) 250000000000000 many (λ k j. gives-small c day clearing k (t .sure k j) prices few i)) z h l m,
+          )

@@ -24,7 +24,8 @@ ghost use Rattle.blocks.specs.Sure.{BlockCounted, BlocksCounted};
 fn fields_ok(zones: usize, zone: usize, side: usize, least: usize, limit: i64) -> bool
     ensures { λ r. ⌜ r ≡ (((ltb zone zones && leb side 1) && leb least mostRatio) && isPrice limit) ⌝ }
 {
-    (zone < zones) & (side <= 1)
+    (zone < zones)
+        & (side <= 1)
         & (least <= limits::RATIO_MOST)
         & ((limits::PRICE_LEAST <= limit) & (limit <= limits::PRICE_MOST))
 }
@@ -131,7 +132,12 @@ fn add_volumes(
     let mut volumes: u64 = 0;
     for period in 0..counts.periods {
         let volume = market::block_volume(ratio, wire::u32_at(part, at + 8 + 4 * period));
-        add_volume(side, volume, cells::cell(counts.periods, zone, period), nets);
+        add_volume(
+            side,
+            volume,
+            cells::cell(counts.periods, zone, period),
+            nets,
+        );
         volumes = plus(volumes, volume);
     }
     volumes
@@ -246,7 +252,18 @@ fn count_block(
         miss(surplus, sums);
         return true;
     }
-    accept(part, at, counts, block.zone, side, ratio, whole.all, surplus, nets, sums)
+    accept(
+        part,
+        at,
+        counts,
+        block.zone,
+        side,
+        ratio,
+        whole.all,
+        surplus,
+        nets,
+        sums,
+    )
 }
 
 // ---- all blocks

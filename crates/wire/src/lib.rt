@@ -40,14 +40,11 @@ pub fn u32_at(s: &[u8], at: usize) -> u32
     byte(s[at]) + byte(s[at + 1]) * 256 + byte(s[at + 2]) * 65536 + byte(s[at + 3]) * 16777216
 }
 
+// The bits of an i32, raised by 2^31 and lowered again: the compiler makes one instruction of it.
 fn signed(u: u32) -> i64
     ensures { λ r. ⌜ r ≡ signed32 u ⌝ }
 {
-    if u < 2147483648 {
-        u as i64
-    } else {
-        u as i64 - 4294967296
-    }
+    ((u as u64 + 2147483648) % 4294967296) as i64 - 2147483648
 }
 
 // The value of an i32, in an i64, so that sums and products of it have room.

@@ -96,8 +96,11 @@ module _ (c : tie.After-share) where
   out-within z h l k =
       let s = c .before .before .before .before .before .before .before .before .before in
       let v = c .before .before .before .before .before in
-      omega (arith, within-gained given-out {bound = 2000000000000000000} {more = 100000000000000} (s .pre .1 .1 .1 .1)
-      (λ y i _ _. shared-size (s .args .side) (partOf (s .args .surplus) (s .args .ratio)) (pos (v .add-volumes .result)) i (part-small s) (omega (arith, volumes-small v))) z h l k)
+      omega (
+        arith,
+        within-gained given-out {bound = 2000000000000000000} {more = 100000000000000} (s .pre .1 .1 .1 .1)
+            (λ y i _ _. shared-size (s .args .side) (partOf (s .args .surplus) (s .args .ratio)) (pos (v .add-volumes .result)) i (part-small s) (omega (arith, volumes-small v))) z h l k,
+      )
 
 less-requires : tie.Need-less-requires
 less-requires c κs =

@@ -55,7 +55,6 @@ module _ (c : tie.After-block-volume Inv-loop μ-loop) where
       (h : ℕ) → h < s .args .counts .periods → blockVolume (s .args .ratio) (blockQuantity (now (s .args .part)) (s .args .at) h) ≤ mostVolume
   small h l = let s = c .before .before .before .before .before in volume-most (s .pre .0 .ratio-is) (s .pre .0 .quantities h l)
 
-
 cell-requires : tie.Need-cell-requires Inv-loop μ-loop
 cell-requires c κs =
     let s = c .before .before .before .before .before in

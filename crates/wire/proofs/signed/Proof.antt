@@ -1,31 +1,47 @@
--- `wire::signed` meets its contract: the bits fit 63 bits, so as an i64 they are their own number. Assumes nothing.
-use mathlib.Core.Path.{_∙_}
+-- `wire::signed` meets its contract. Assumes nothing.
+use Prim.Native.Nat.{ℕ, _+_, _%_, _<_}
 use native.Mathlib.Omega.{arith}
-use borrow.Author.Needs.{needs}
-use borrow.Author.Tests.{lt-ltb, le-ltb}
+use mathlib.Core.Path.{_≡_, refl, _∙_}
+use mathlib.Core.Bool.{Bool, true, false, cond}
+use lib.Dec.{ltb}
+use lib.IntN.{pos, _-ℤ_}
 use mir.Syntax.{w64}
+use mir.Val.{SFits}
 use mir.ValLaws.{toZ-pos, toZ-ofZ}
+use borrow.Author.Needs.{needs}
+use borrow.Author.Tests.{ltb-true, ltb-false}
+use Rattle.whole.specs.Ring.{linear}
+use Rattle.whole.specs.Size.{fits-is}
+use Rattle.wire.specs.Bytes.{signed32}
 use Rattle.wire.proofs.signed.Statement.{statement}
 use Rattle.wire.proofs.signed.Tie as tie
+
+-- raised by 2^31, cut to 32 bits, lowered by 2^31
+lowered : (u : ℕ) → u < 4294967296 → pos ((u + 2147483648) % 4294967296) -ℤ pos 2147483648 ≡ signed32 u
+lowered u l = by (ltb u 2147483648) refl
+  where
+    by : (b : Bool) → ltb u 2147483648 ≡ b → pos ((u + 2147483648) % 4294967296) -ℤ pos 2147483648 ≡ cond b (pos u) (pos u -ℤ pos 4294967296)
+    by true e = simp linear (omega (arith, ltb-true u 2147483648 e, l))
+    by false e = simp linear (omega (arith, ltb-false u 2147483648 e, l))
+
+low-fits : (m : ℕ) → m < 4294967296 → SFits w64 (pos m -ℤ pos 2147483648)
+low-fits m l = fits-is w64 (pos m -ℤ pos 2147483648) .1 (simp linear (omega arith), simp linear (omega arith))
+
+add-result : tie.Need-add-result
+add-result c = search needs
 
 cast-result : tie.Need-cast-result
 cast-result c = search needs
 
-cast-result-2 : tie.Need-cast-result-2
-cast-result-2 c = search needs
-
 sub-result : tie.Need-sub-result
 sub-result c =
-    rw (toZ-pos w64 (c .before .args .u) (omega arith), lt-ltb (c .before .args .u) 4294967296 (omega arith))
-    (record { sfits = omega arith })
+    let m = (c .args .u + 2147483648) % 4294967296 in
+    rw (toZ-pos w64 m (omega arith)) (low-fits m (omega arith))
 
 returns : tie.Need-returns
-returns c = rw (toZ-pos w64 (c .before .args .u) (omega arith), lt-ltb (c .before .args .u) 2147483648 (omega arith))
-
-returns-2 : tie.Need-returns-2
-returns-2 c =
-    toZ-ofZ w64 _ (sub-result c)
-    ∙ rw (toZ-pos w64 (c .before .args .u) (omega arith), le-ltb (c .before .args .u) 2147483648 (omega arith))
+returns c =
+    let m = (c .args .u + 2147483648) % 4294967296 in
+    rw (toZ-pos w64 m (omega arith), toZ-ofZ w64 (pos m -ℤ pos 2147483648) (low-fits m (omega arith))) (lowered (c .args .u) (omega arith))
 
 pub signed-spec : {M : Type 1} → statement M
-signed-spec = tie.close (tie.spec cast-result cast-result-2 sub-result returns returns-2)
+signed-spec = tie.close (tie.spec add-result cast-result sub-result returns)
