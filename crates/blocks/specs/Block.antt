@@ -8,7 +8,7 @@ use lib.IntN.{ℤ, pos, negℤ, natAbs, _+ℤ_, _-ℤ_, _*ℤ_}
 use lib.ListN.{length}
 use Rattle.whole.specs.Whole.{_≼_, sum, at, above-zero}
 use Rattle.cells.specs.Cells.{Gained, buyers, sellers, traded, shortfall}
-use Rattle.limits.specs.Limits.{mostPeriods, mostVolume, mostRatio}
+use Rattle.limits.specs.Limits.{mostPeriods, mostPrice, mostVolume, mostRatio}
 use Rattle.market.specs.Market.{blockVolume, ofSells, ofBuys}
 use Rattle.market.specs.Rules.{wholeOk}
 use Rattle.market.specs.Measures.{bySide}
@@ -27,17 +27,19 @@ pub record HeadRow (zones : ℕ) (part : List ℕ) (at : ℕ) : Type 0 where
 
 -- ---- the first walk
 
--- over the first n periods: the sum of the quantities, that of the quantities at their prices, and a number that no quantity is above
-pub record WalkedTo (quantity : ℕ → ℕ) (price : ℕ → ℤ) (n all : ℕ) (worth : ℤ) (bits : ℕ) : Type 0 where
+-- over the first n periods: the sum of the quantities, that of the quantities at their prices, each raised by the highest, and a number that
+-- no quantity is above
+pub record WalkedTo (quantity : ℕ → ℕ) (price : ℕ → ℤ) (n all worth bits : ℕ) : Type 0 where
   pub all-is : pos all ≡ sum n (λ h. pos (quantity h))
-  pub worth-is : worth ≡ sum n (λ h. price h *ℤ pos (quantity h))
+  pub worth-is : pos worth ≡ sum n (λ h. (price h +ℤ pos mostPrice) *ℤ pos (quantity h))
   pub bits-above : (h : ℕ) → h < n → quantity h ≤ bits
   pub all-small : all ≤ n * 4294967295
-  pub worth-small : natAbs worth ≤ n * 4294967295000000
+  pub worth-small : worth ≤ n * 8589934590000000
 
--- the surplus of the whole block
-abbrev pub surplusBy : Side → ℤ → ℕ → ℤ → ℤ
-surplusBy side limit all worth = bySide side (worth -ℤ limit *ℤ pos all) (limit *ℤ pos all -ℤ worth)
+-- the surplus of the whole block: the limit is raised as the prices are
+abbrev pub surplusBy : Side → ℤ → ℕ → ℕ → ℤ
+surplusBy side limit all worth =
+    bySide side (pos worth -ℤ (limit +ℤ pos mostPrice) *ℤ pos all) ((limit +ℤ pos mostPrice) *ℤ pos all -ℤ pos worth)
 
 -- ---- the second walk
 

@@ -1,16 +1,14 @@
 -- A block that has passed its tests is sure, and what was gathered of it is counted; how large what it gives is. Assumes nothing.
-use Prim.Native.Nat.{ℕ, zero, suc, _+_, _*_, _≤_, _<_}
+use Prim.Native.Nat.{ℕ, zero, suc, _+_, _≤_, _<_}
 use native.Mathlib.Nat.{le-trans, le-refl, eq-or-lt-of-le}
 use native.Mathlib.Omega.{arith}
 use mathlib.Core.Path.{_≡_, refl, sym, _∙_}
 use mathlib.Core.Logic.{⊎-elim}
 use mathlib.Core.Bool.{Bool, true, false, _||_}
 use mathlib.Core.List.{List}
-use lib.IntN.{ℤ, pos, natAbs, _+ℤ_, _-ℤ_, +ℤ-idr}
+use lib.IntN.{ℤ, pos, natAbs, _+ℤ_, _-ℤ_}
 use lib.Dec.{eqb}
-use lib.Signed.{leZ}
-use borrow.Author.Tests.{eq-eqb}
-use Rattle.whole.specs.Whole.{_≼_, sum, at, above-zero}
+use Rattle.whole.specs.Whole.{sum, at, above-zero}
 use Rattle.whole.specs.Whole as places
 use Rattle.whole.specs.Ring.{given, linear, leZ-true}
 use Rattle.whole.specs.Sums.{sum-next}
@@ -18,10 +16,10 @@ use Rattle.whole.specs.Size.{abs-le, abs-+, abs--, at-size, above-zero-size, su
 use Rattle.stages.specs.First.{eqb-is}
 use Rattle.cells.specs.Cells.{Gained, Within, buyers, sellers, traded, shortfall, nothing-gained, gained-then, gained-same, within-gained}
 use Rattle.limits.specs.Limits.{mostPeriods, mostBlocks, mostPrice, mostVolume, mostRatio}
-use Rattle.market.specs.Market.{blockVolume, ofBuys, ofSells, surplusOf, wholeSurplus, leftSurplus, missed}
+use Rattle.market.specs.Market.{blockVolume, wholeSurplus, missed}
 use Rattle.market.specs.Rules.{test, ratioOk, wholeOk, blockOk}
 use Rattle.market.specs.RuleLaws.{rejected-never-refused}
-use Rattle.market.specs.Measures.{Small, blockMeasured}
+use Rattle.market.specs.Measures.{blockMeasured}
 use Rattle.market.specs.MeasureLaws.{measured-size, whole-is, left-is}
 use Rattle.market.specs.declared.Side.{Side}
 use Rattle.market.specs.declared.Side.the-variants.{Sell, Buy}
@@ -134,7 +132,7 @@ module _ (c : Counts) (day clearing : List ℕ) (k : ℕ) where
 
   -- ---- the tests before the surplus
 
-  pub record Tested (all : ℕ) (worth : ℤ) (bits : ℕ) : Type 0 where
+  pub record Tested (all worth bits : ℕ) : Type 0 where
     pub head : HeadRow (c .zones) (blocksPart day) start
     pub ratio-is : ratioOf clearing k ≤ mostRatio
     pub ratio-ok : ratioOk (blockAt (blocksPart day) start .least) (ratioOf clearing k) ≡ true
@@ -142,7 +140,7 @@ module _ (c : Counts) (day clearing : List ℕ) (k : ℕ) where
     pub bits-small : bits ≤ mostVolume
     pub some : 0 < all
 
-  module _ {all : ℕ} {worth : ℤ} {bits : ℕ} (t : Tested all worth bits) where
+  module _ {all worth bits : ℕ} (t : Tested all worth bits) where
     pub tested-row : BlockRow (c .periods) (c .zones) (blocksPart day) start
     tested-row =
         let s = some-above (c .periods) (blockQuantity (blocksPart day) start)
@@ -223,7 +221,7 @@ module _ (c : Counts) (day clearing : List ℕ) (k : ℕ) where
 
   -- ---- the same of what was read
 
-  module _ {part : List ℕ} {at : ℕ} {b : Block} {ratio all : ℕ} {worth : ℤ} {bits : ℕ} (r : RowRead part at b ratio) where
+  module _ {part : List ℕ} {at : ℕ} {b : Block} {ratio all worth bits : ℕ} (r : RowRead part at b ratio) where
     pub tested : HeadRow (c .zones) part at → ratio ≤ mostRatio → ratioOk (b .least) ratio ≡ true →
         WalkedTo (blockQuantity part at) (pricesOf c clearing (b .zone)) (c .periods) all worth bits → bits ≤ mostVolume → 0 < all → Tested all worth bits
     tested =

@@ -1,9 +1,8 @@
 -- The laws by which the two walks over a block's periods gather, and by which the sums grow. Assumes nothing.
 use Prim.Native.Nat.{ℕ, zero, suc, _+_, _*_, _/_, _%_, _≤_, _<_}
 use native.Mathlib.Nat.{le-trans, eq-or-lt-of-le, zero-add, mul-le-mul}
-use native.Mathlib.Numerals.{add-one}
 use native.Mathlib.Omega.{arith}
-use mathlib.Core.Path.{_≡_, refl, sym, ap, _∙_}
+use mathlib.Core.Path.{_≡_, refl, sym}
 use mathlib.Core.Logic.{⊎-elim}
 use mathlib.Core.Bool.{Bool, true, false, cond, _&&_}
 use mathlib.Core.List.{List}
@@ -16,7 +15,7 @@ use mir.Val.{SFits}
 use Rattle.whole.specs.Whole.{_≼_, sum, at}
 use Rattle.whole.specs.Ring.{given, linear, leZ-true}
 use Rattle.whole.specs.Sums.{sums, sum-next, sum-nonneg, at-same}
-use Rattle.whole.specs.Size.{abs-neg, abs-+, abs-*-≤, at-size, sum-within, fits-i64}
+use Rattle.whole.specs.Size.{abs-neg, abs-+, at-size, sum-within, fits-i64}
 use Rattle.cells.specs.Cells.{Gained, Within, added, buyers, sellers, traded, nothing-gained, gained-at, gained-then, gained-same, within-gained}
 use Rattle.stages.specs.First.{both, leb-is, ltb-is, eqb-is}
 use Rattle.limits.specs.Limits.{mostPeriods, mostPrice, mostVolume, mostRatio, isPrice}
@@ -49,7 +48,7 @@ pub either-above : (a b : ℕ) → (a ≤ bitOr a b) × (b ≤ bitOr a b)
 either-above a b = (omega (arith, or-add-and a b, and-le-r a b), omega (arith, or-add-and a b, and-le-l a b))
 
 module _ {quantity : ℕ → ℕ} {price : ℕ → ℤ} where
-  pub none-walked : WalkedTo quantity price 0 0 (pos 0) 0
+  pub none-walked : WalkedTo quantity price 0 0 0 0
   unfolding sum
   none-walked = record {
     all-is = refl;
@@ -60,20 +59,22 @@ module _ {quantity : ℕ → ℕ} {price : ℕ → ℤ} where
   }
 
   -- one period more
-  pub more-walked : {n all bits all₁ bits₁ : ℕ} {worth worth₁ : ℤ} → WalkedTo quantity price n all worth bits →
-      quantity n < 4294967296 → natAbs (price n) ≤ mostPrice →
-      all₁ ≡ all + quantity n → worth₁ ≡ worth +ℤ price n *ℤ pos (quantity n) → (bits ≤ bits₁) × (quantity n ≤ bits₁) →
+  pub more-walked : {n all worth bits all₁ worth₁ bits₁ raised : ℕ} → WalkedTo quantity price n all worth bits → quantity n < 4294967296 →
+      (pos raised ≡ price n +ℤ pos mostPrice) × (raised ≤ 2000000) →
+      all₁ ≡ all + quantity n → worth₁ ≡ worth + raised * quantity n → (bits ≤ bits₁) × (quantity n ≤ bits₁) →
       WalkedTo quantity price (n + 1) all₁ worth₁ bits₁
-  more-walked {n} {all} {bits} {all₁} {bits₁} {worth} {worth₁} w q p a v b = record {
-    all-is = rw (a, sum-next, ← w .all-is);
-    worth-is = rw (v, sum-next, ← w .worth-is);
-    bits-above = λ h l. ⊎-elim (λ (e : h ≡ n). rw e (b .1)) (λ (m : h < n). le-trans (w .bits-above h m) (b .0)) (eq-or-lt-of-le (omega arith));
-    all-small = omega arith;
-    worth-small = rw v (omega (arith, abs-+ worth (price n *ℤ pos (quantity n)), abs-*-≤ (price n) (pos (quantity n)) 1000000 4294967295 p (omega arith)));
-  }
+  more-walked {n} {raised = raised} w q p a v b =
+      let product : raised * quantity n ≤ 2000000 * 4294967295 = mul-le-mul {n₂ = 2000000} {m₂ = 4294967295} (p .1) (omega arith) in
+      record {
+        all-is = rw (a, sum-next, ← w .all-is);
+        worth-is = rw (v, sum-next, ← w .worth-is, ← p .0);
+        bits-above = λ h l. ⊎-elim (λ (e : h ≡ n). rw e (b .1)) (λ (m : h < n). le-trans (w .bits-above h m) (b .0)) (eq-or-lt-of-le (omega arith));
+        all-small = omega (arith, w .all-small);
+        worth-small = omega (arith, w .worth-small);
+      }
 
-  pub walked-small : {n all bits : ℕ} {worth : ℤ} → WalkedTo quantity price n all worth bits → n ≤ mostPeriods →
-      (all ≤ 1000000000000) × (natAbs worth ≤ 1000000000000000000)
+  pub walked-small : {n all worth bits : ℕ} → WalkedTo quantity price n all worth bits → n ≤ mostPeriods →
+      (all ≤ 1000000000000) × (worth ≤ 1000000000000000000)
   walked-small w few = (omega (arith, w .all-small), omega (arith, w .worth-small))
 
 -- ---- the second walk

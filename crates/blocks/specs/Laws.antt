@@ -1,19 +1,17 @@
 -- What is gathered of a block is what the market measures of it. Assumes nothing.
-use Prim.Native.Nat.{ℕ, zero, suc, _*_, _/_, _%_, _≤_, _<_}
-use native.Mathlib.Nat.{le-trans, eq-or-lt-of-le}
+use Prim.Native.Nat.{ℕ, _*_, _<_}
 use native.Mathlib.Omega.{arith}
-use mathlib.Core.Path.{_≡_, refl, sym, ap, _∙_}
+use mathlib.Core.Path.{_≡_, refl, _∙_}
 use mathlib.Core.Bool.{Bool, true, false, cond}
 use lib.Dec.{eqb}
-use mathlib.Core.List.{List}
-use lib.IntN.{ℤ, pos, negsuc, negℤ, natAbs, _+ℤ_, _-ℤ_, _*ℤ_, zero-*ℤ}
-use Rattle.whole.specs.Whole.{_≼_, sum, at, above-zero}
+use lib.IntN.{ℤ, pos, negsuc, negℤ, _+ℤ_, _-ℤ_, _*ℤ_, zero-*ℤ}
+use Rattle.whole.specs.Whole.{_≼_, sum, at}
 use Rattle.whole.specs.Ring.{given, linear}
 use Rattle.whole.specs.Sums.{sums, sum-cong, sum-zero}
-use Rattle.limits.specs.Limits.{mostRatio}
-use Rattle.market.specs.Market.{Day, Choice, Prices, blockVolume, volumeAt, blockTrade, ofSells, ofBuys, margin, surplusOf, wholeSurplus, leftSurplus}
+use Rattle.limits.specs.Limits.{mostPrice, mostRatio}
+use Rattle.market.specs.Market.{Day, Choice, Prices, blockVolume, ofSells, ofBuys, margin, surplusOf, wholeSurplus}
 use Rattle.market.specs.Rules.{WholeAt}
-use Rattle.market.specs.Measures.{gain, bySide, measured, priced, blockMeasured}
+use Rattle.market.specs.Measures.{gain, bySide, measured, blockMeasured}
 use Rattle.market.specs.MeasureLaws.{left-is}
 use Rattle.market.specs.Margins.{blockSurplus, with-left}
 use Rattle.market.specs.Kinds.{in-thousandths}
@@ -46,8 +44,10 @@ brought : (side : Side) (zone i volume z h : ℕ) →
 brought Sell zone i volume z h = refl
 brought Buy zone i volume z h = rw (at-neg, at-neg)
 
-surplus-by : (side : Side) (limit : ℤ) (price : ℕ → ℤ) (quantity : ℕ → ℕ) (n all : ℕ) (worth : ℤ) → pos all ≡ sum n (λ h. pos (quantity h)) →
-    worth ≡ sum n (λ h. price h *ℤ pos (quantity h)) → sum n (λ h. margin side limit (price h) *ℤ pos (quantity h)) ≡ surplusBy side limit all worth
+surplus-by : (side : Side) (limit : ℤ) (price : ℕ → ℤ) (quantity : ℕ → ℕ) (n : ℕ) (all worth : ℤ) → all ≡ sum n (λ h. pos (quantity h)) →
+    worth ≡ sum n (λ h. (price h +ℤ pos mostPrice) *ℤ pos (quantity h)) →
+    sum n (λ h. margin side limit (price h) *ℤ pos (quantity h))
+    ≡ bySide side (worth -ℤ (limit +ℤ pos mostPrice) *ℤ all) ((limit +ℤ pos mostPrice) *ℤ all -ℤ worth)
 surplus-by Sell limit price quantity n all worth a w = rw (a, w) (simp sums (simp linear (omega arith)))
 surplus-by Buy limit price quantity n all worth a w = rw (a, w) (simp sums (simp linear (omega arith)))
 
@@ -88,11 +88,11 @@ module _ (d : Day) (p : Prices) (k ratio : ℕ) where
 -- ---- the whole, what is accepted, what is left
 
 module _ (d : Day) (p : Prices) (c : Choice) (k : ℕ) where
-  pub whole-surplus-is : (all : ℕ) (worth : ℤ) → pos all ≡ sum (d .periods) (λ h. pos (d .quantity k h)) →
-      worth ≡ sum (d .periods) (λ h. p (d .block k .zone) h *ℤ pos (d .quantity k h)) →
+  pub whole-surplus-is : (all worth : ℕ) → pos all ≡ sum (d .periods) (λ h. pos (d .quantity k h)) →
+      pos worth ≡ sum (d .periods) (λ h. (p (d .block k .zone) h +ℤ pos mostPrice) *ℤ pos (d .quantity k h)) →
       wholeSurplus d p k ≡ surplusBy (d .block k .side) (d .block k .limit) all worth
   unfolding surplusOf
-  whole-surplus-is = surplus-by (d .block k .side) (d .block k .limit) (p (d .block k .zone)) (d .quantity k) (d .periods)
+  whole-surplus-is all worth = surplus-by (d .block k .side) (d .block k .limit) (p (d .block k .zone)) (d .quantity k) (d .periods) (pos all) (pos worth)
 
   taken-is : blockMeasured d p Surplus k (c .ratio k) ≡ blockSurplus d p c k
   taken-is = given (left-is d p c k) (given (with-left d p c k) (simp linear (omega arith)))
@@ -113,12 +113,12 @@ module _ (d : Day) (p : Prices) (c : Choice) (k : ℕ) where
         by : (r : ℕ) → r ≡ 0 → pos mostRatio *ℤ blockSurplus d p c k ≡ pos r *ℤ wholeSurplus d p k → blockSurplus d p c k ≡ pos 0
         by r z e = given (simp (z, zero-*ℤ) at e) (simp linear (omega arith))
 
-    none-brought : (side : Side) (zone i z h : ℕ) → at zone (at i (signedVolume side 0) h) z ≡ pos 0
-    none-brought Sell zone i z h = rw (at-none, at-none)
-    none-brought Buy zone i z h = rw (at-none, at-none)
+    nothing-at : (side : Side) (zone i z h : ℕ) → at zone (at i (signedVolume side 0) h) z ≡ pos 0
+    nothing-at Sell zone i z h = rw (at-none, at-none)
+    nothing-at Buy zone i z h = rw (at-none, at-none)
 
     pub none-volumes : sum (d .periods) (λ h. pos (blockVolume (c .ratio k) (d .quantity k h))) ≡ pos 0
     none-volumes = sum-zero (d .periods) _ (λ h _. rw (none, no-volume))
 
     pub nothing-brought : (z h : ℕ) → blockMeasured d p (Net z h) k (c .ratio k) ≡ pos 0
-    nothing-brought z h = net-is d p k (c .ratio k) z h ∙ sum-zero (d .periods) _ (λ i _. rw (none, no-volume) (none-brought (d .block k .side) (d .block k .zone) i z h))
+    nothing-brought z h = net-is d p k (c .ratio k) z h ∙ sum-zero (d .periods) _ (λ i _. rw (none, no-volume) (nothing-at (d .block k .side) (d .block k .zone) i z h))

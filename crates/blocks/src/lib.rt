@@ -4,9 +4,9 @@ use market::Side;
 use rows::Kind;
 ghost use mathlib.Core.Path.{_≡_};
 ghost use mathlib.Core.Bool.{true, _&&_};
-ghost use Prim.Native.Nat.{ℕ, _+_, _*_, _≤_, _<_};
+ghost use Prim.Native.Nat.{_+_, _*_, _≤_, _<_};
 ghost use lib.Dec.{leb, ltb};
-ghost use lib.IntN.{pos, natAbs, _+ℤ_, _*ℤ_};
+ghost use lib.IntN.{pos, natAbs, _+ℤ_};
 ghost use lib.ListN.{length, getD};
 ghost use Rattle.whole.specs.Whole.{_≼_, sum, at, above-zero};
 ghost use Rattle.cells.specs.Cells.{added, Gained, Within, shortfall};
@@ -45,10 +45,11 @@ fn head_ok(part: &[u8], at: usize, zones: usize) -> bool
 
 // ---- the first walk: the whole block
 
-// What is summed over the periods: the quantities, and the quantities at their prices. No quantity is above the bits that any of them has.
+// What is summed over the periods: the quantities, and the quantities at their raised prices. No quantity is above the bits that any of them
+// has.
 pub struct Walked {
     pub all: u64,
-    pub worth: i64,
+    pub worth: u64,
     pub bits: u32,
 }
 
@@ -59,11 +60,19 @@ fn plus(all: u64, n: u32) -> u64
     all + n as u64
 }
 
-fn plus_worth(worth: i64, price: i64, quantity: u32) -> i64
-    requires { ⌜ (natAbs worth ≤ 1000000000000000000) × (natAbs price ≤ mostPrice) ⌝ }
-    ensures { λ r. ⌜ r ≡ worth +ℤ price *ℤ pos quantity ⌝ }
+// A price raised by the highest, so that none is below 0.
+fn raised(price: i64) -> u32
+    requires { ⌜ natAbs price ≤ mostPrice ⌝ }
+    ensures { λ r. ⌜ (pos r ≡ price +ℤ pos mostPrice) × (r ≤ 2000000) ⌝ }
 {
-    worth + price * quantity as i64
+    (price + limits::PRICE_MOST) as u32
+}
+
+fn plus_worth(worth: u64, price: u32, quantity: u32) -> u64
+    requires { ⌜ (worth ≤ 1000000000000000000) × (price ≤ 2000000) ⌝ }
+    ensures { λ r. ⌜ r ≡ worth + price * quantity ⌝ }
+{
+    worth + price as u64 * quantity as u64
 }
 
 fn either(a: u32, b: u32) -> u32
@@ -79,11 +88,11 @@ fn over_periods(part: &[u8], at: usize, clearing: &[u8], counts: Counts, zone: u
     ensures { λ r. ⌜ WalkedTo (blockQuantity (now (part .entry)) at) (pricesOf counts (now (clearing .entry)) zone) (counts .periods) (r .all) (r .worth) (r .bits) ⌝ }
 {
     let mut all: u64 = 0;
-    let mut worth: i64 = 0;
+    let mut worth: u64 = 0;
     let mut bits: u32 = 0;
     for period in 0..counts.periods {
         let quantity = wire::u32_at(part, at + 8 + 4 * period);
-        let price = book::price_of(clearing, counts, zone, period);
+        let price = raised(book::price_of(clearing, counts, zone, period));
         all = plus(all, quantity);
         worth = plus_worth(worth, price, quantity);
         bits = either(bits, quantity);
@@ -91,18 +100,31 @@ fn over_periods(part: &[u8], at: usize, clearing: &[u8], counts: Counts, zone: u
     Walked { all, worth, bits }
 }
 
-fn surplus_of(side: Side, limit: i64, all: u64, worth: i64) -> i64
-    requires { ⌜ (natAbs limit ≤ mostPrice) × ((all ≤ 1000000000000) × (natAbs worth ≤ 1000000000000000000)) ⌝ }
+fn surplus_of(side: Side, limit: i64, all: u64, worth: u64) -> i64
+    requires { ⌜ (natAbs limit ≤ mostPrice) × ((all ≤ 1000000000000) × (worth ≤ 1000000000000000000)) ⌝ }
     ensures { λ r. ⌜ r ≡ surplusBy side limit all worth ⌝ }
 {
-    let limits = limit * all as i64;
+    let asked = (limit + limits::PRICE_MOST) * all as i64;
+    let got = worth as i64;
     match side {
-        Side::Sell => worth - limits,
-        Side::Buy => limits - worth,
+        Side::Sell => got - asked,
+        Side::Buy => asked - got,
     }
 }
 
 // ---- the second walk: what is accepted
+
+// The volume in a period. That the whole of a quantity is that quantity spares the division.
+fn volume_of(ratio: u32, quantity: u32) -> u32
+    requires { ⌜ (ratio ≤ mostRatio) × (quantity ≤ mostVolume) ⌝ }
+    ensures { λ r. ⌜ r ≡ blockVolume ratio quantity ⌝ }
+{
+    if ratio == market::WHOLE {
+        quantity
+    } else {
+        market::block_volume(ratio, quantity)
+    }
+}
 
 fn add_volume(side: Side, volume: u32, cell: usize, nets: &mut [i64])
     requires { ⌜ (volume ≤ mostVolume) × (cell < length (now nets)) ⌝ }
@@ -131,7 +153,7 @@ fn add_volumes(
 {
     let mut volumes: u64 = 0;
     for period in 0..counts.periods {
-        let volume = market::block_volume(ratio, wire::u32_at(part, at + 8 + 4 * period));
+        let volume = volume_of(ratio, wire::u32_at(part, at + 8 + 4 * period));
         add_volume(
             side,
             volume,

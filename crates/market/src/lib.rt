@@ -4,7 +4,6 @@ ghost use Prim.Native.Nat.{_≤_};
 ghost use lib.IntN.{pos, negℤ, natAbs, _+ℤ_, _-ℤ_, _*ℤ_};
 ghost use mir.Syntax.{w64};
 ghost use mir.Val.{SFits};
-ghost use Rattle.whole.specs.Whole.{at};
 ghost use Rattle.limits.specs.Limits.{mostPrice, mostFlow, mostVolume, mostRatio};
 ghost use Rattle.market.specs.Market.{blockVolume, volumeAt};
 ghost use Rattle.market.specs.Rules.{equal, fullOrNone, stepOk, lineOk, ratioOk, wholeOk, blockOk};
@@ -236,23 +235,9 @@ pub fn rent(flow: i64, from: i64, to: i64) -> i64
     flow * (to - from)
 }
 
-fn flow_at(end: usize, flow: i64, zone: usize) -> i64
-    ensures { λ r. ⌜ r ≡ at end flow zone ⌝ }
-{
-    if zone == end { flow } else { 0 }
-}
-
 pub fn less(a: i64, b: i64) -> i64
     requires { ⌜ SFits w64 (a -ℤ b) ⌝ }
     ensures { λ r. ⌜ r ≡ a -ℤ b ⌝ }
 {
     a - b
-}
-
-// What a line takes away from a zone, less what it brings there.
-pub fn leaves(line: Line, flow: i64, zone: usize) -> i64
-    requires { ⌜ natAbs flow ≤ mostFlow ⌝ }
-    ensures { λ r. ⌜ r ≡ at (line .from) flow zone -ℤ at (line .to) flow zone ⌝ }
-{
-    less(flow_at(line.from, flow, zone), flow_at(line.to, flow, zone))
 }

@@ -85,19 +85,19 @@ module _ {day clearing : List ℕ} {c : Counts} (a : AllSure day clearing c) whe
       let least = a .opened .framed .of-clearing .limits .periods-least in
       good-clearing f
       (λ i b.
-          let at = cell-of (c .zones) least (rw (le-antisymm (f .prices-head .at-most) (f .prices-head .at-least)) at b) in
-          price-row 0 0 clearing i .1
-          (subst (λ (n : ℕ). IsPrice (i32At clearing (rowStart kinds.Prices 0 n))) (at .1 .1) (a .prices (i / c .periods) (i % c .periods) (at .0) (at .1 .0) .price-is)))
+      let at = cell-of (c .zones) least (rw (le-antisymm (f .prices-head .at-most) (f .prices-head .at-least)) at b) in
+      price-row 0 0 clearing i .1
+      (subst (λ (n : ℕ). IsPrice (i32At clearing (rowStart kinds.Prices 0 n))) (at .1 .1) (a .prices (i / c .periods) (i % c .periods) (at .0) (at .1 .0) .price-is)))
       (λ i b.
-          let at = cell-of (c .lines) least (rw (le-antisymm (f .flows-head .at-most) (f .flows-head .at-least)) at b) in
-          flow-row 0 0 (flowsPart clearing) i .1
-          (subst (λ (n : ℕ). IsFlow (i32At (flowsPart clearing) (rowStart kinds.Flows 0 n))) (at .1 .1) (a .lines (i / c .periods) (at .0) .flow-is (i % c .periods) (at .1 .0))))
+      let at = cell-of (c .lines) least (rw (le-antisymm (f .flows-head .at-most) (f .flows-head .at-least)) at b) in
+      flow-row 0 0 (flowsPart clearing) i .1
+      (subst (λ (n : ℕ). IsFlow (i32At (flowsPart clearing) (rowStart kinds.Flows 0 n))) (at .1 .1) (a .lines (i / c .periods) (at .0) .flow-is (i % c .periods) (at .1 .0))))
       (λ i b.
-          let l = rw (le-antisymm (f .volumes-head .at-most) (f .volumes-head .at-least)) at b in
-          volume-row 0 0 (volumesPart clearing) i .1
-          (le-trans (test-is (dayOf c day) (pricesOf c clearing) (choiceOf c clearing) Quantity i 0 .0 (a .steps i l .quantity)) (a .steps i l .row .at-most)))
+      let l = rw (le-antisymm (f .volumes-head .at-most) (f .volumes-head .at-least)) at b in
+      volume-row 0 0 (volumesPart clearing) i .1
+      (le-trans (test-is (dayOf c day) (pricesOf c clearing) (choiceOf c clearing) Quantity i 0 .0 (a .steps i l .quantity)) (a .steps i l .row .at-most)))
       (λ k b.
-          ratio-row 0 0 (ratiosPart clearing) k .1 (a .blocks k (rw (le-antisymm (f .ratios-head .at-most) (f .ratios-head .at-least)) at b) .ratio-is))
+      ratio-row 0 0 (ratiosPart clearing) k .1 (a .blocks k (rw (le-antisymm (f .ratios-head .at-most) (f .ratios-head .at-least)) at b) .ratio-is))
 
   pub files-are : OfFiles day clearing c
   files-are = record {
@@ -222,10 +222,10 @@ module _ {day clearing : List ℕ} {c : Counts} (limits : InLimits c) (prices : 
       le-trans (at-size rent _ k)
       (sum-within (c .periods) 25 (rentAt (dayOf c day) (pricesOf c clearing) (choiceOf c clearing) l) 2000000000000 (limits .periods-most)
       (λ h b.
-          let to = pricesOf c clearing (ends .to) h in
-          let from = pricesOf c clearing (ends .from) h in
-          abs-*-≤ (flowOf c clearing l h) (to -ℤ from) 1000000 2000000 (abs-le (flowOf c clearing l h) mostFlow .1 (s .flow-is h b .low, s .flow-is h b .high))
-          (omega (arith, abs-- to from, prices (ends .to) h (s .row .to-is) b, prices (ends .from) h (s .row .from-is) b))))
+      let to = pricesOf c clearing (ends .to) h in
+      let from = pricesOf c clearing (ends .from) h in
+      abs-*-≤ (flowOf c clearing l h) (to -ℤ from) 1000000 2000000 (abs-le (flowOf c clearing l h) mostFlow .1 (s .flow-is h b .low, s .flow-is h b .high))
+      (omega (arith, abs-- to from, prices (ends .to) h (s .row .to-is) b, prices (ends .from) h (s .row .from-is) b))))
 
   pub lines-within : {f0 f1 s0 s1 : List ℤ} → LinesCounted c day clearing f0 f1 s0 s1 → Within 1 5 0 s0 → Within 1 5 1000000000000000 s1
   lines-within a w z k l j =

@@ -1,12 +1,12 @@
 -- `blocks::accept` meets its contract. Assumes nothing.
-use Prim.Native.Nat.{ℕ, _*_, _≤_, _<_}
-use native.Mathlib.Nat.{le-trans, le-refl, mul-le-mul}
+use Prim.Native.Nat.{_*_, _≤_}
+use native.Mathlib.Nat.{mul-le-mul}
 use native.Mathlib.Omega.{arith}
 use mathlib.Core.Path.{_≡_, refl, _∙_}
 use lib.IntN.{pos, natAbs, _-ℤ_}
 use lib.ListN.{length}
 use mir.Syntax.{w64}
-use mir.Val.{SFits, toZ, ofZ}
+use mir.Val.{toZ, ofZ}
 use mir.ValLaws.{toZ-ofZ}
 use denote.Ref.{now}
 use borrow.Author.Needs.{needs}
@@ -16,7 +16,6 @@ use Rattle.whole.specs.Size.{abs--, sum-within, fits-i64, same}
 use Rattle.stages.specs.First.{apart}
 use Rattle.cells.specs.Cells.{Gained, Within, gained-then, within-gained}
 use Rattle.limits.specs.Limits.{mostPeriods, mostVolume}
-use Rattle.market.specs.Market.{blockVolume}
 use Rattle.rows.specs.Rows.{blockQuantity}
 use Rattle.blocks.specs.Block.{shared, partOf}
 use Rattle.blocks.specs.Gather.{volume-most, volumes-size, shared-size, part-size, all-whole}

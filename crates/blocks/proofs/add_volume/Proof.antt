@@ -1,5 +1,4 @@
 -- `blocks::add_volume` meets its contract. Assumes nothing.
-use native.Mathlib.Omega.{arith}
 use mathlib.Core.Path.{_≡_, _∙_}
 use lib.IntN.{pos, negℤ}
 use lib.ListN.{getD}

@@ -1,10 +1,8 @@
 -- `blocks::add_volumes` meets its contract. Assumes nothing.
-use Prim.Native.Nat.{ℕ, _+_, _*_, _-_, _≤_, _<_}
+use Prim.Native.Nat.{ℕ, _-_, _≤_, _<_}
 use native.Mathlib.Nat.{le-antisymm, le-trans}
 use native.Mathlib.Omega.{arith}
 use mathlib.Core.Path.{_≡_, _∙_}
-use lib.IntN.{pos, natAbs}
-use lib.ListN.{length, getD}
 use borrow.Author.Needs.{needs}
 use denote.Ref.{now}
 use Rattle.cells.specs.Cells.{cell-below}
@@ -39,16 +37,16 @@ add-u32-at-2 c = search needs
 u32-at-requires : tie.Need-u32-at-requires Inv-loop μ-loop
 u32-at-requires c κs = omega (arith, c .before .before .before .pre .0 .row-within, c .loop-test .taken)
 
-block-volume-requires : tie.Need-block-volume-requires Inv-loop μ-loop
-block-volume-requires c κs =
+volume-of-requires : tie.Need-volume-of-requires Inv-loop μ-loop
+volume-of-requires c κs =
     let s = c .before .before .before .before in
     (s .pre .0 .ratio-is, rw (c .u32-at .ensures) (s .pre .0 .quantities _ (c .before .loop-test .taken)))
 
 -- the volume of the period
-module _ (c : tie.After-block-volume Inv-loop μ-loop) where
+module _ (c : tie.After-volume-of Inv-loop μ-loop) where
   volume-is : let s = c .before .before .before .before .before in
-      c .block-volume .result ≡ blockVolume (s .args .ratio) (blockQuantity (now (s .args .part)) (s .args .at) (c .before .before .before .loop .period))
-  volume-is = c .block-volume .ensures ∙ rw (c .before .u32-at .ensures)
+      c .volume-of .result ≡ blockVolume (s .args .ratio) (blockQuantity (now (s .args .part)) (s .args .at) (c .before .before .before .loop .period))
+  volume-is = c .volume-of .ensures ∙ rw (c .before .u32-at .ensures)
 
   -- and those before it
   small : let s = c .before .before .before .before .before in
@@ -112,7 +110,7 @@ add-volumes-spec =
     mul-u32-at
     add-u32-at-2
     u32-at-requires
-    block-volume-requires
+    volume-of-requires
     cell-requires
     add-volume-requires
     plus-requires

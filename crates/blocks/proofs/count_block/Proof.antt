@@ -3,7 +3,7 @@ use Prim.Native.Nat.{ℕ, _+_, _*_, _≤_, _<_}
 use native.Mathlib.Nat.{le-trans}
 use native.Mathlib.Omega.{arith}
 use mathlib.Core.Path.{_≡_, refl, sym, _∙_}
-use lib.IntN.{pos, natAbs}
+use lib.IntN.{natAbs}
 use lib.ListN.{length}
 use mir.Syntax.{w64}
 use mir.Val.{toZ, ofZ}
@@ -17,7 +17,6 @@ use Rattle.rows.specs.Rows.{rowStart}
 use Rattle.rows.specs.declared.Kind.the-variants.{Blocks}
 use Rattle.day.specs.Day.{blocksPart}
 use Rattle.day.specs.Good.{prices-most}
-use Rattle.book.specs.Book.{blockAt, ratioOf}
 use Rattle.book.specs.DayRows.{block-within}
 use Rattle.blocks.specs.Block.{HeadRow, surplusBy}
 use Rattle.blocks.specs.Gather.{walked-small}
@@ -113,40 +112,40 @@ passed c =
     (c .before .before .if4 .left)
     (above-none (walk .over-periods .result .all) (c .if5 .left))
 
-walk-small : (c : tie.After-over-periods) → (c .over-periods .result .all ≤ 1000000000000) × (natAbs (c .over-periods .result .worth) ≤ 1000000000000000000)
+walk-small : (c : tie.After-over-periods) → (c .over-periods .result .all ≤ 1000000000000) × (c .over-periods .result .worth ≤ 1000000000000000000)
 walk-small c =
     let s = c .before .before .before .before .before .before .before .before .before .before .before .before in
     walked-small (c .over-periods .ensures) (s .pre .0 .0 .of-clearing .limits .periods-most)
 
 surplus-of-requires : tie.Need-surplus-of-requires
 surplus-of-requires c κs =
-    let walk = c .before .before .before .before .before .before in
+    let walk = c .before .before .before .before .before in
     let b = walk .before .before .before .before .before in (
-      rw (same (b .block-at .result .limit) (c .before .struct-told .given .1 .1 .0 .1), b .block-at .ensures) (abs-le _ mostPrice .1 (head (b .before) .price-is .low, head (b .before) .price-is .high)),
-      (walk-small walk .0, rw (same (walk .over-periods .result .worth) (c .struct-told2 .given .1 .0 .1)) (walk-small walk .1)),
+      rw (same (b .block-at .result .limit) (c .struct-told .given .1 .1 .0 .1), b .block-at .ensures) (abs-le _ mostPrice .1 (head (b .before) .price-is .low, head (b .before) .price-is .high)),
+      walk-small walk,
     )
 
 -- the whole block's surplus
-surplus-is : (c : tie.After-surplus-of) → let walk = c .before .before .before .before .before .before .before in
+surplus-is : (c : tie.After-surplus-of) → let walk = c .before .before .before .before .before .before in
     let b = walk .before .before .before .before .before .block-at .result in
     toZ w64 (ofZ w64 (c .surplus-of .result)) ≡ surplusBy (b .side) (b .limit) (walk .over-periods .result .all) (walk .over-periods .result .worth)
 surplus-is c =
     let t = c .before in
-    let walk = t .before .before .before .before .before .before in
+    let walk = t .before .before .before .before .before in
     let b = walk .before .before .before .before .before in
     same (c .surplus-of .result) (c .surplus-of .ok) ∙ c .surplus-of .ensures
-    ∙ rw (same (b .block-at .result .limit) (t .before .struct-told .given .1 .1 .0 .1), same (walk .over-periods .result .worth) (t .struct-told2 .given .1 .0 .1))
+    ∙ rw (same (b .block-at .result .limit) (t .struct-told .given .1 .1 .0 .1))
 
 small : (c : tie.After-surplus-of) → natAbs (toZ w64 (ofZ w64 (c .surplus-of .result))) ≤ 50000000000000
 small c =
-    let e = c .before .before .before in
+    let e = c .before .before in
     let ratio = e .before .before .before .before .before .before .before .before in
     let s = ratio .before .before .before .before .before .before .before .before in
     rw (surplus-is c) (surplus-small (s .args .counts) (now (s .args .day)) (now (s .args .clearing)) (s .args .row) (read ratio) (passed e) (s .pre .0 .1 .0) (s .pre .0 .0 .of-clearing .limits .periods-most))
 
 miss-requires : tie.Need-miss-requires
 miss-requires c κs =
-    let s = c .before .before .before .before .before .before .before .before .before .before .before .before .before .before .before .before .before .before .before .before .before in
+    let s = c .before .before .before .before .before .before .before .before .before .before .before .before .before .before .before .before .before .before .before .before in
     (omega (arith, small (c .before .before)), (s .pre .1 .1 .0, λ z h l k. le-trans (s .pre .1 .1 .1 z h l k) (omega arith)))
 
 same-length : tie.Need-same-length
@@ -155,7 +154,7 @@ same-length c = search needs
 returns-6 : tie.Need-returns-6
 returns-6 c _ =
     let surplus = c .before .before .before .before in
-    let e = surplus .before .before .before in
+    let e = surplus .before .before in
     let ratio = e .before .before .before .before .before .before .before .before in
     let s = ratio .before .before .before .before .before .before .before .before in
     rejected-read (s .args .counts) (now (s .args .day)) (now (s .args .clearing)) (s .args .row) (read ratio) (passed e)
@@ -164,7 +163,7 @@ returns-6 c _ =
 accept-requires : tie.Need-accept-requires
 accept-requires c κs =
     let surplus = c .before .before .before in
-    let e = surplus .before .before .before in
+    let e = surplus .before .before in
     let walk = e .before .before .before .before in
     let ratio = walk .before .before .before .before in
     let b = ratio .before in
@@ -190,7 +189,7 @@ same-length-3 c = search needs
 returns-7 : tie.Need-returns-7
 returns-7 c true =
     let surplus = c .before .before .before .before .before .before in
-    let e = surplus .before .before .before in
+    let e = surplus .before .before in
     let ratio = e .before .before .before .before .before .before .before .before in
     let s = ratio .before .before .before .before .before .before .before .before in
     accepted-read (s .args .counts) (now (s .args .day)) (now (s .args .clearing)) (s .args .row) (read ratio) (passed e)

@@ -1,7 +1,6 @@
 -- `blocks::miss` meets its contract. Assumes nothing.
 use native.Mathlib.Omega.{arith}
 use mathlib.Core.Path.{_≡_, sym}
-use lib.IntN.{pos, natAbs}
 use mir.Syntax.{w64}
 use mir.Val.{toZ, ofZ}
 use mir.ValLaws.{toZ-ofZ}

@@ -1,9 +1,9 @@
 -- `blocks::over_periods` meets its contract. Assumes nothing.
-use Prim.Native.Nat.{ℕ, _+_, _*_, _-_, _≤_, _<_}
+use Prim.Native.Nat.{_+_, _-_, _≤_}
 use native.Mathlib.Nat.{le-antisymm, le-trans}
 use native.Mathlib.Omega.{arith}
 use mathlib.Core.Path.{_≡_, _∙_}
-use lib.IntN.{natAbs}
+use lib.IntN.{pos, _+ℤ_}
 use mir.Syntax.{w64}
 use mir.Val.{toZ, ofZ}
 use borrow.Author.Needs.{needs}
@@ -13,13 +13,13 @@ use Rattle.limits.specs.Limits.{mostPrice}
 use Rattle.rows.specs.Rows.{blockQuantity}
 use Rattle.book.specs.Book.{pricesOf}
 use Rattle.blocks.specs.Block.{WalkedTo}
-use Rattle.blocks.specs.Gather.{none-walked, more-walked}
+use Rattle.blocks.specs.Gather.{none-walked, more-walked, walked-small}
 use Rattle.blocks.proofs.over_periods.Statement.{statement}
 use Rattle.blocks.proofs.over_periods.Tie as tie
 
 abbrev Inv-loop : tie.InvT-loop
 Inv-loop part at clearing counts zone all₀ worth₀ bits₀ period₀ period-end all worth bits period =
-    (period ≤ counts .periods) × WalkedTo (blockQuantity part at) (pricesOf counts clearing zone) period all (toZ w64 worth) bits
+    (period ≤ counts .periods) × WalkedTo (blockQuantity part at) (pricesOf counts clearing zone) period all worth bits
 
 abbrev μ-loop : tie.MeasureT-loop
 μ-loop part at clearing counts zone all₀ worth₀ bits₀ period₀ period-end all worth bits period = counts .periods - period
@@ -42,26 +42,32 @@ u32-at-requires c κs = let s = c .before .before .before .before in omega (arit
 price-of-requires : tie.Need-price-of-requires Inv-loop μ-loop
 price-of-requires c κs = let s = c .before .before .before .before .before in (s .pre .1 .0, (s .pre .1 .1 .1, c .before .loop-test .taken))
 
-plus-requires : tie.Need-plus-requires Inv-loop μ-loop
-plus-requires c κs =
-    let l = c .before .before .before in
-    omega (arith, l .loop .inv .1 .all-small, l .before .before .before .pre .1 .0 .limits .periods-most, c .before .before .loop-test .taken)
-
 -- the price of the period
 price-is : (c : tie.After-price-of Inv-loop μ-loop) → let s = c .before .before .before .before .before .before in
     toZ w64 (ofZ w64 (c .price-of .result)) ≡ pricesOf (s .args .counts) (now (s .args .clearing)) (s .args .zone) (c .before .before .before .loop .period)
 price-is c = same (c .price-of .result) (c .price-of .ok) ∙ c .price-of .ensures
 
-price-small : (c : tie.After-price-of Inv-loop μ-loop) → let s = c .before .before .before .before .before .before in
-    natAbs (pricesOf (s .args .counts) (now (s .args .clearing)) (s .args .zone) (c .before .before .before .loop .period)) ≤ mostPrice
-price-small c = let s = c .before .before .before .before .before .before in s .pre .1 .1 .0 _ _ (s .pre .1 .1 .1) (c .before .before .loop-test .taken)
+raised-requires : tie.Need-raised-requires Inv-loop μ-loop
+raised-requires c κs =
+    let s = c .before .before .before .before .before .before in
+    rw (price-is c) (s .pre .1 .1 .0 _ _ (s .pre .1 .1 .1) (c .before .before .loop-test .taken))
+
+raised-is : (c : tie.After-raised Inv-loop μ-loop) → let s = c .before .before .before .before .before .before .before in
+    (pos (c .raised .result) ≡ pricesOf (s .args .counts) (now (s .args .clearing)) (s .args .zone) (c .before .before .before .before .loop .period) +ℤ pos mostPrice)
+    × (c .raised .result ≤ 2000000)
+raised-is c = rw (← price-is (c .before)) (c .raised .ensures)
+
+-- the sums so far
+so-far : (c : tie.In-loop Inv-loop μ-loop) → (c .before .loop .all ≤ 1000000000000) × (c .before .loop .worth ≤ 1000000000000000000)
+so-far c =
+    let l = c .before in
+    walked-small (l .loop .inv .1) (le-trans (l .loop .inv .0) (l .before .before .before .pre .1 .0 .limits .periods-most))
+
+plus-requires : tie.Need-plus-requires Inv-loop μ-loop
+plus-requires c κs = so-far (c .before .before .before) .0
 
 plus-worth-requires : tie.Need-plus-worth-requires Inv-loop μ-loop
-plus-worth-requires c κs =
-    let l = c .before .before .before .before in (
-      omega (arith, l .loop .inv .1 .worth-small, l .before .before .before .pre .1 .0 .limits .periods-most, c .before .before .before .loop-test .taken),
-      rw (price-is (c .before)) (price-small (c .before)),
-    )
+plus-worth-requires c κs = (so-far (c .before .before .before .before) .1, c .before .raised .ensures .1)
 
 either-requires : tie.Need-either-requires Inv-loop μ-loop
 either-requires c κs = search needs
@@ -74,15 +80,15 @@ loop-less c = search needs
 
 loop-again : tie.Need-loop-again Inv-loop μ-loop
 loop-again c =
-    let worth = c .before .plus-worth in
-    let p = c .before .before .before in
-    let quantity = p .before .u32-at in (
-      omega (arith, p .before .before .loop-test .taken),
-      more-walked (p .before .before .before .loop .inv .1)
+    let price = c .before .before .before in
+    let u = price .before .before in
+    let quantity = u .u32-at in (
+      omega (arith, u .before .loop-test .taken),
+      more-walked (u .before .before .loop .inv .1)
           (rw (← quantity .ensures) (omega arith))
-          (price-small p)
+          (raised-is price)
           (c .before .before .plus .ensures ∙ rw (quantity .ensures))
-          (same (worth .result) (worth .ok) ∙ worth .ensures ∙ rw (price-is p, quantity .ensures))
+          (c .before .plus-worth .ensures ∙ rw (quantity .ensures))
           (rw (← quantity .ensures) (c .either .ensures)),
     )
 
@@ -101,6 +107,7 @@ over-periods-spec =
     add-u32-at-2
     u32-at-requires
     price-of-requires
+    raised-requires
     plus-requires
     plus-worth-requires
     either-requires

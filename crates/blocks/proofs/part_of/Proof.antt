@@ -3,7 +3,7 @@ use Prim.Native.Nat.{_*_, _≤_}
 use native.Mathlib.Nat.{mul-le-mul}
 use native.Mathlib.Omega.{arith}
 use mathlib.Core.Path.{_≡_}
-use lib.IntN.{natAbs, pos}
+use lib.IntN.{natAbs}
 use lib.Signed.{yes-nonNeg}
 use mir.Syntax.{w64}
 use mir.Val.{toZ, ofZ}

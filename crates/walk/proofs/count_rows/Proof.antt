@@ -70,8 +70,7 @@ count-blocks-requires c κs =
     let limits = s .pre .0 .0 .of-clearing .limits in
     let first = lines .count-lines .ensures (not-false _ (steps .before .before .before .if1 .left)) in
     let counted = steps .count-steps .ensures (not-false _ (else .if2 .left)) in
-    let held = lines-within limits (s .pre .0 .1) first (no-sum-within (s .pre .1 .1 .1) 0) in
-    (
+    let held = lines-within limits (s .pre .0 .1) first (no-sum-within (s .pre .1 .1 .1) 0) in (
       s .pre .0,
       (
         (counted .nets-gain .long ∙ zeros-long (s .pre .1 .0), counted .sums-gain .long ∙ first .sums .long ∙ zeros-long (s .pre .1 .1 .1)),
