@@ -14,7 +14,7 @@ use Rattle.whole.specs.Ring.{given, linear, leZ-true}
 use Rattle.whole.specs.Sums.{sum-next}
 use Rattle.whole.specs.Size.{abs-le, abs-+, abs--, at-size, above-zero-size, sum-within}
 use Rattle.stages.specs.First.{eqb-is}
-use Rattle.cells.specs.Cells.{Gained, Within, buyers, sellers, traded, shortfall, nothing-gained, gained-then, gained-same, within-gained}
+use Rattle.cells.specs.Cells.{at-none, Gained, Within, buyers, sellers, traded, shortfall, nothing-gained, gained-then, gained-same, within-gained}
 use Rattle.limits.specs.Limits.{mostPeriods, mostBlocks, mostPrice, mostVolume, mostRatio}
 use Rattle.market.specs.Market.{blockVolume, wholeSurplus, missed}
 use Rattle.market.specs.Rules.{test, ratioOk, wholeOk, blockOk}
@@ -35,7 +35,7 @@ use Rattle.book.specs.Book.{dayOf, pricesOf, choiceOf, blockAt, blockOf, quanti
 use Rattle.book.specs.Framed.{PricesSmall}
 use Rattle.blocks.specs.Sure.{SureBlock, blockBrings, blockGives, BlockCounted, CountedTo}
 use Rattle.blocks.specs.Block.{HeadRow, WalkedTo, surplusBy, shared, partOf, Accepted}
-use Rattle.blocks.specs.Gather.{volume-most, at-none}
+use Rattle.blocks.specs.Gather.{volume-most}
 use Rattle.blocks.specs.Laws.{sellers-is, buyers-is, traded-is, net-is, whole-surplus-is, accepted-is, none-accepted, none-volumes, nothing-brought}
 
 -- quantities that are not 0 together have one above 0

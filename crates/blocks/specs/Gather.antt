@@ -4,9 +4,9 @@ use native.Mathlib.Nat.{le-trans, eq-or-lt-of-le, zero-add, mul-le-mul}
 use native.Mathlib.Omega.{arith}
 use mathlib.Core.Path.{_≡_, refl, sym}
 use mathlib.Core.Logic.{⊎-elim}
-use mathlib.Core.Bool.{Bool, true, false, cond, _&&_}
+use mathlib.Core.Bool.{true, _&&_}
 use mathlib.Core.List.{List}
-use lib.Dec.{eqb, leb, ltb}
+use lib.Dec.{leb, ltb}
 use lib.Bits.{bitOr, or-add-and, and-le-l, and-le-r}
 use lib.IntN.{ℤ, pos, natAbs, _+ℤ_, _-ℤ_, _*ℤ_}
 use lib.ListN.{length, getD}
@@ -14,9 +14,9 @@ use mir.Syntax.{w64}
 use mir.Val.{SFits}
 use Rattle.whole.specs.Whole.{_≼_, sum, at}
 use Rattle.whole.specs.Ring.{given, linear, leZ-true}
-use Rattle.whole.specs.Sums.{sums, sum-next, sum-nonneg, at-same}
+use Rattle.whole.specs.Sums.{sums, sum-next, sum-nonneg}
 use Rattle.whole.specs.Size.{abs-neg, abs-+, at-size, sum-within, fits-i64}
-use Rattle.cells.specs.Cells.{Gained, Within, added, buyers, sellers, traded, nothing-gained, gained-at, gained-then, gained-same, within-gained}
+use Rattle.cells.specs.Cells.{at-none, Within, added, buyers, sellers, traded, nothing-gained, gained-at, gained-then, gained-same, within-gained}
 use Rattle.stages.specs.First.{both, leb-is, ltb-is, eqb-is}
 use Rattle.limits.specs.Limits.{mostPeriods, mostPrice, mostVolume, mostRatio, isPrice}
 use Rattle.market.specs.Market.{blockVolume}
@@ -124,24 +124,7 @@ module _ {zones periods zone : ℕ} {side : Side} {volume : ℕ → ℕ} where
 
 -- ---- the sums
 
--- nothing at a place
-pub at-none : (k s : ℕ) → at k (pos 0) s ≡ pos 0
-unfolding at
-at-none k s = by (eqb s k)
-  where
-    by : (b : Bool) → cond b (pos 0) (pos 0) ≡ pos 0
-    by true = refl
-    by false = refl
-
 module _ (sums : List ℤ) (s : ℕ) (l : s < 5) where
-  pub sum-gained : length sums ≡ 5 → (x : ℤ) → Gained 1 5 (λ _. at s x) sums (added sums s x)
-  sum-gained long x =
-      let g : Gained 1 5 (λ z h. at 0 (at s x h) z) sums (added sums (0 + s) x) = gained-at 0 s (rw (zero-add, long) l) l x in
-      gained-same (rw zero-add at g) (λ z h k _. first z h (omega arith))
-    where
-      first : (z h : ℕ) → z ≡ 0 → at 0 (at s x h) z ≡ at s x h
-      first z h e = rw (e, at-same)
-
   pub sum-fits : (x : ℤ) {bound more : ℕ} → Within 1 5 bound sums → natAbs x ≤ more → bound + more < 9223372036854775808 →
       SFits w64 (getD sums s (pos 0) +ℤ x)
   sum-fits x {bound} {more} w m f =

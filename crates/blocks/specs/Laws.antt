@@ -1,14 +1,13 @@
 -- What is gathered of a block is what the market measures of it. Assumes nothing.
-use Prim.Native.Nat.{ℕ, _*_, _<_}
+use Prim.Native.Nat.{ℕ, _<_}
 use native.Mathlib.Omega.{arith}
 use mathlib.Core.Path.{_≡_, refl, _∙_}
-use mathlib.Core.Bool.{Bool, true, false, cond}
-use lib.Dec.{eqb}
 use lib.IntN.{ℤ, pos, negsuc, negℤ, _+ℤ_, _-ℤ_, _*ℤ_, zero-*ℤ}
 use Rattle.whole.specs.Whole.{_≼_, sum, at}
 use Rattle.whole.specs.Ring.{given, linear}
 use Rattle.whole.specs.Sums.{sums, sum-cong, sum-zero}
 use Rattle.limits.specs.Limits.{mostPrice, mostRatio}
+use Rattle.cells.specs.Cells.{at-none, at-neg}
 use Rattle.market.specs.Market.{Day, Choice, Prices, blockVolume, ofSells, ofBuys, margin, surplusOf, wholeSurplus}
 use Rattle.market.specs.Rules.{WholeAt}
 use Rattle.market.specs.Measures.{gain, bySide, measured, blockMeasured}
@@ -19,17 +18,8 @@ use Rattle.market.specs.declared.Side.{Side}
 use Rattle.market.specs.declared.Side.the-variants.{Sell, Buy}
 use Rattle.market.specs.declared.Measure.the-variants.{Buyers, Sellers, Traded, Surplus, Net}
 use Rattle.blocks.specs.Block.{surplusBy, signedVolume, brings, partOf}
-use Rattle.blocks.specs.Gather.{at-none}
 
 -- ---- by the side
-
-at-neg : (k : ℕ) (x : ℤ) (s : ℕ) → negℤ (at k x s) ≡ at k (negℤ x) s
-unfolding at
-at-neg k x s = by (eqb s k)
-  where
-    by : (b : Bool) → negℤ (cond b x (pos 0)) ≡ cond b (negℤ x) (pos 0)
-    by true = refl
-    by false = refl
 
 sold-part : (side : Side) (n : ℕ) (f g : ℕ → ℤ) → sum n (λ h. bySide side (f h) (pos 0)) ≡ ofSells side (sum n (λ h. bySide side (f h) (g h)))
 sold-part Sell n f g = refl

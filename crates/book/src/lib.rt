@@ -1,4 +1,4 @@
-// Two files that read without fault, row by row, as the market's day, prices and choice.
+// Two files whose frames are without fault, row by row, as the market's day, prices and choice.
 use day::Counts;
 use market::Block;
 use market::Line;

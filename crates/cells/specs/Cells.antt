@@ -1,13 +1,15 @@
 -- A table that has a number for each zone and period, all periods of zone 0 first, in 200 cells; and what adding a number at one place
 -- makes of it. Assumes nothing.
 use Prim.Native.Nat.{ℕ, _+_, _*_, _/_, _%_, _≤_, _<_}
-use native.Mathlib.Nat.{mul-le-mul, div-lt-iff-lt-mul, mod-lt, mod-add-div}
+use native.Mathlib.Nat.{zero-add, mul-le-mul, div-lt-iff-lt-mul, mod-lt, mod-add-div}
 use native.Mathlib.Decide.{ℕ-discrete}
 use native.Mathlib.Omega.{arith}
 use mathlib.Core.Path.{_≡_, refl, sym, ap, _∙_}
+use mathlib.Core.Bool.{Bool, true, false, cond}
 use mathlib.Core.List.{List}
+use lib.Dec.{eqb}
 use lib.Arith.{digits-div, digits-mod}
-use lib.IntN.{ℤ, pos, natAbs, _+ℤ_, +ℤ-idr, +ℤ-assoc}
+use lib.IntN.{ℤ, pos, negℤ, natAbs, _+ℤ_, +ℤ-idr, +ℤ-assoc}
 use lib.ListN.{length, getD, set, replicate, length-set, length-replicate, getD-replicate}
 use lib.Seq.{getD-set-same, getD-set-other}
 use Rattle.whole.specs.Whole.{at}
@@ -47,6 +49,24 @@ shortfall = 4
 -- no cell further from zero than the bound
 abbrev pub Within : ℕ → ℕ → ℕ → List ℤ → Type 0
 Within zones periods bound table = (zone period : ℕ) → zone < zones → period < periods → natAbs (getD table (zone * periods + period) (pos 0)) ≤ bound
+
+-- ---- a number at one place
+
+pub at-none : (k i : ℕ) → at k (pos 0) i ≡ pos 0
+unfolding at
+at-none k i = by (eqb i k)
+  where
+    by : (b : Bool) → cond b (pos 0) (pos 0) ≡ pos 0
+    by true = refl
+    by false = refl
+
+pub at-neg : (k : ℕ) (x : ℤ) (i : ℕ) → at k (negℤ x) i ≡ negℤ (at k x i)
+unfolding at
+at-neg k x i = by (eqb i k)
+  where
+    by : (b : Bool) → cond b (negℤ x) (pos 0) ≡ negℤ (cond b x (pos 0))
+    by true = refl
+    by false = refl
 
 -- ---- one cell
 
@@ -105,6 +125,12 @@ module _ {zones periods : ℕ} where
 
     pub tabled-gained : {t : ℕ → ℕ → ℤ} → Tabled zones periods t a → Tabled zones periods (λ z h. t z h +ℤ f z h) b
     tabled-gained t = record { long = s .long ∙ t .long; each = λ z h l k. rw (s .each z h l k, t .each z h l k) }
+
+-- x at one place of a row of sums
+pub gained-in-row : (sums : List ℤ) (s : ℕ) → s < 5 → length sums ≡ 5 → (x : ℤ) → Gained 1 5 (λ _ k. at s x k) sums (added sums s x)
+gained-in-row sums s l long x =
+    let g : Gained 1 5 (λ z k. at 0 (at s x k) z) sums (added sums (0 + s) x) = gained-at 0 s (rw (zero-add, long) l) l x in
+    gained-same (rw zero-add at g) (λ z k b _. let none : z ≡ 0 = omega (arith, b) in rw (none, at-same))
 
 -- ---- all cells
 

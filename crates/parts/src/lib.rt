@@ -1,4 +1,4 @@
-// The sections of a day file that reads without fault, each from its count on, as parts of the caller's file.
+// The sections of a day file whose frame is without fault, each from its count on, as parts of the caller's file.
 use day::Counts;
 use rows::Kind;
 ghost use mathlib.Core.Path.{_≡_};

@@ -4,7 +4,6 @@ use Prim.Native.Nat.{ℕ, _+_, _*_, _/_, _%_, _<_, _≤_}
 use native.Mathlib.Nat.{le-refl, le-antisymm, le-trans, zero-add, div-lt-iff-lt-mul, mod-lt, mod-add-div}
 use native.Mathlib.Omega.{arith}
 use mathlib.Core.Path.{_≡_, refl, sym, ap, subst, _∙_}
-use mathlib.Core.Bool.{true}
 use mathlib.Core.List.{List}
 use lib.IntN.{ℤ, pos, natAbs, _+ℤ_, _-ℤ_, +ℤ-idl}
 use lib.ListN.{length, getD, replicate, length-replicate, getD-replicate}
@@ -15,15 +14,15 @@ use Rattle.whole.specs.Ring.{linear}
 use Rattle.whole.specs.Sums.{sum-zero, sum-cong}
 use Rattle.whole.specs.Size.{fits-i64, abs-le, abs-+, abs--, abs-*-≤, at-size, sum-within}
 use Rattle.limits.specs.Limits.{mostPrice, mostFlow}
-use Rattle.cells.specs.Cells.{Tabled, Gained, Within, within-gained, buyers, sellers, rent, traded, shortfall, none-tabled, tabled-gained, same-tabled}
+use Rattle.cells.specs.Cells.{Tabled, Within, within-gained, buyers, sellers, rent, traded, shortfall, none-tabled, tabled-gained, same-tabled}
 use Rattle.market.specs.Market as market
 use Rattle.market.specs.Market.{Day, Choice, Prices, netPosition, leaving, entering, totals, buyerSurplus, sellerSurplus, tradedVolume, rentAt, missed}
 use Rattle.market.specs.Rules.{Lawful, Balanced}
 use Rattle.market.specs.RuleLaws.{test-is}
-use Rattle.market.specs.Measures.{priced, stepMeasured, lineLeaves, blockMeasured}
-use Rattle.market.specs.MeasureLaws.{steps-size, blocks-size, rents-size, accepted-is, net-is, net-flow-is, value-is, buyers-is, sellers-is, traded-is}
+use Rattle.market.specs.Measures.{priced, stepMeasured, blockMeasured}
+use Rattle.market.specs.MeasureLaws.{steps-size, blocks-size, rents-size, accepted-is, net-is, net-flow-is, buyers-is, sellers-is, traded-is}
 use Rattle.market.specs.Welfare.{adds-up}
-use Rattle.market.specs.declared.Rule.the-variants.{Price, Capacity, Quantity, Ratio, Whole, Balance, Step, Line, Block}
+use Rattle.market.specs.declared.Rule.the-variants.{Price, Capacity, Quantity, Ratio, Whole, Step, Line, Block}
 use Rattle.market.specs.declared.Totals.{Totals}
 use Rattle.market.specs.declared.Measure.{Measure}
 use Rattle.market.specs.declared.Measure.the-variants.{Buyers, Sellers, Traded, Net}

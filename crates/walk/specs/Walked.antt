@@ -1,5 +1,5 @@
 -- Two files in which nothing is broken, with their counts, their totals and their net positions: what the walk is sure of. Assumes nothing.
-use Prim.Native.Nat.{ℕ, _<_}
+use Prim.Native.Nat.{ℕ}
 use mathlib.Core.Path.{_≡_}
 use mathlib.Core.List.{List}
 use lib.IntN.{ℤ}

@@ -6,8 +6,8 @@ use mir.Val.{toZ, ofZ}
 use mir.ValLaws.{toZ-ofZ}
 use denote.Ref.{now}
 use Rattle.whole.specs.Ring.{given, linear, above-zero-of-nonneg, above-zero-of-nonpos}
-use Rattle.cells.specs.Cells.{shortfall, nothing-gained, gained-same}
-use Rattle.blocks.specs.Gather.{sum-gained, sum-fits, at-none}
+use Rattle.cells.specs.Cells.{at-none, gained-in-row, shortfall, nothing-gained, gained-same}
+use Rattle.blocks.specs.Gather.{sum-fits}
 use borrow.Author.Needs.{needs}
 use Rattle.blocks.proofs.miss.Statement.{statement}
 use Rattle.blocks.proofs.miss.Tie as tie
@@ -27,7 +27,7 @@ returns : tie.Need-returns
 returns c =
     let s = c .before .before .before .before in
     rw (c .before .add-at .ensures, read s, above-zero-of-nonneg (s .args .left) (given (rw (read s) at (c .before .before .before .if1 .taken)) (simp linear (omega arith))))
-    (sum-gained (now (s .args .sums)) shortfall (omega arith) (s .pre .1 .0) (s .args .left))
+    (gained-in-row (now (s .args .sums)) shortfall (omega arith) (s .pre .1 .0) (s .args .left))
 
 returns-2 : tie.Need-returns-2
 returns-2 c =

@@ -10,8 +10,8 @@ use mir.ValLaws.{toZ-ofZ, toZ-pos}
 use denote.Ref.{now}
 use Rattle.whole.specs.Whole.{at}
 use Rattle.whole.specs.Size.{at-size}
-use Rattle.cells.specs.Cells.{Gained, Within, buyers, sellers, traded, gained-then, gained-same, within-gained}
-use Rattle.blocks.specs.Gather.{sum-gained, sum-fits, sold-shared, bought-shared}
+use Rattle.cells.specs.Cells.{gained-in-row, Gained, Within, buyers, sellers, traded, gained-then, gained-same, within-gained}
+use Rattle.blocks.specs.Gather.{sum-fits, sold-shared, bought-shared}
 use borrow.Author.Needs.{needs}
 use Rattle.blocks.proofs.share.Statement.{statement}
 use Rattle.blocks.proofs.share.Tie as tie
@@ -43,7 +43,7 @@ module _ (c : tie.After-add-at2) where
   first : let s = c .before .before .before .before in Gained 1 5 (λ _. at buyers (s .args .accepted)) (now (s .args .sums)) (c .add-at2 .last .0)
   first =
       let s = c .before .before .before .before in
-      rw (c .add-at2 .ensures, read-accepted s) (sum-gained (now (s .args .sums)) buyers (omega arith) (s .pre .1 .0) (s .args .accepted))
+      rw (c .add-at2 .ensures, read-accepted s) (gained-in-row (now (s .args .sums)) buyers (omega arith) (s .pre .1 .0) (s .args .accepted))
 
   first-long : length (c .add-at2 .last .0) ≡ 5
   first-long = first .long ∙ c .before .before .before .before .pre .1 .0
@@ -71,7 +71,7 @@ returns : tie.Need-returns
 returns c =
     let s = c .before .before .before .before .before in
     rw (c .before .add-at .ensures, read-accepted s, c .before .before .before .enum-told .given .1)
-    (gained-same (sum-gained (now (s .args .sums)) sellers (omega arith) (s .pre .1 .0) (s .args .accepted))
+    (gained-same (gained-in-row (now (s .args .sums)) sellers (omega arith) (s .pre .1 .0) (s .args .accepted))
     (λ z h _ _. sold-shared (s .args .accepted) (pos (s .args .volumes)) h))
 
 same-length-2 : tie.Need-same-length-2
@@ -82,7 +82,7 @@ returns-2 c =
     let a = c .before .before .before .before in
     let s = a .before .before .before .before in
     rw (c .before .add-at3 .ensures, read-volumes s, a .before .before .enum-told2 .given .1)
-    (gained-same (gained-then (first a) (sum-gained (a .add-at2 .last .0) traded (omega arith) (first-long a) (pos (s .args .volumes))))
+    (gained-same (gained-then (first a) (gained-in-row (a .add-at2 .last .0) traded (omega arith) (first-long a) (pos (s .args .volumes))))
     (λ z h _ _. bought-shared (s .args .accepted) (pos (s .args .volumes)) h))
 
 pub share-spec : {M : Type 1} → statement M
