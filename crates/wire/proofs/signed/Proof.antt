@@ -6,7 +6,7 @@ use mathlib.Core.Bool.{Bool, true, false, cond}
 use lib.Dec.{ltb}
 use lib.IntN.{pos, _-ℤ_}
 use mir.Syntax.{w64}
-use mir.Val.{SFits}
+use mir.Val.{SFits, toZ, ofZ}
 use mir.ValLaws.{toZ-pos, toZ-ofZ}
 use borrow.Author.Needs.{needs}
 use borrow.Author.Tests.{ltb-true, ltb-false}
@@ -27,6 +27,13 @@ lowered u l = by (ltb u 2147483648) refl
 low-fits : (m : ℕ) → m < 4294967296 → SFits w64 (pos m -ℤ pos 2147483648)
 low-fits m l = fits-is w64 (pos m -ℤ pos 2147483648) .1 (simp linear (omega arith), simp linear (omega arith))
 
+module _ (u : ℕ) (l : u < 4294967296) where
+  bits-fit : SFits w64 (toZ w64 ((u + 2147483648) % 4294967296) -ℤ pos 2147483648)
+  bits-fit = rw (toZ-pos w64 ((u + 2147483648) % 4294967296) (omega arith)) (low-fits ((u + 2147483648) % 4294967296) (omega arith))
+
+  bits-are : toZ w64 (ofZ w64 (toZ w64 ((u + 2147483648) % 4294967296) -ℤ pos 2147483648)) ≡ signed32 u
+  bits-are = toZ-ofZ w64 _ bits-fit ∙ rw (toZ-pos w64 ((u + 2147483648) % 4294967296) (omega arith)) (lowered u l)
+
 add-result : tie.Need-add-result
 add-result c = search needs
 
@@ -34,14 +41,10 @@ cast-result : tie.Need-cast-result
 cast-result c = search needs
 
 sub-result : tie.Need-sub-result
-sub-result c =
-    let m = (c .args .u + 2147483648) % 4294967296 in
-    rw (toZ-pos w64 m (omega arith)) (low-fits m (omega arith))
+sub-result c = bits-fit (c .args .u) (omega arith)
 
 returns : tie.Need-returns
-returns c =
-    let m = (c .args .u + 2147483648) % 4294967296 in
-    rw (toZ-pos w64 m (omega arith), toZ-ofZ w64 (pos m -ℤ pos 2147483648) (low-fits m (omega arith))) (lowered (c .args .u) (omega arith))
+returns c = bits-are (c .args .u) (omega arith)
 
 pub signed-spec : {M : Type 1} → statement M
 signed-spec = tie.close (tie.spec add-result cast-result sub-result returns)
