@@ -3,23 +3,23 @@ use Prim.Native.Nat.{ℕ, _+_, _*_, _<_, _≤_}
 use native.Mathlib.Nat.{zero-add, le-trans, eq-or-lt-of-le, le-of-suc-le-suc}
 use native.Mathlib.Numerals.{add-one}
 use native.Mathlib.Omega.{arith}
-use mathlib.Core.Path.{_≡_, refl, _∙_}
+use mathlib.Core.Path.{_≡_, refl, sym, _∙_}
 use mathlib.Core.Logic.{⊎-elim}
-use mathlib.Core.Bool.{Bool, true, false, _&&_, cond}
+use mathlib.Core.Bool.{Bool, true, false, _&&_}
 use mathlib.Core.List.{List}
 use lib.Dec.{leb, eqb}
-use lib.IntN.{ℤ, pos, negℤ, natAbs, _+ℤ_, _-ℤ_}
+use lib.IntN.{ℤ, pos, negℤ, natAbs, _+ℤ_, _-ℤ_, +ℤ-idr}
 use lib.ListN.{length, getD, length-set}
-use lib.Seq.{getD-set-other}
+use lib.Seq.{getD-set-other, set-getD}
 use mir.Syntax.{w64}
 use mir.Val.{SFits}
 use borrow.Author.Tests.{le-leb}
 use Rattle.whole.specs.Whole.{_≼_, _≺_, sum, at}
-use Rattle.whole.specs.Ring.{given, linear, leZ-true, leZ-false}
-use Rattle.whole.specs.Sums.{at-same, sum-next}
+use Rattle.whole.specs.Ring.{given, linear, ring, leZ-true, leZ-false}
+use Rattle.whole.specs.Sums.{sum-next}
 use Rattle.whole.specs.Size.{fits-i64, abs-le, abs-+, abs--, abs-*-≤, at-size, sum-within}
-use Rattle.stages.specs.First.{every, both, eqb-is, leb-is}
-use Rattle.cells.specs.Cells.{Within, Gained, added, buyers, sellers, traded, nothing-gained, gained-at, gained-then, gained-same, within-gained}
+use Rattle.stages.specs.First.{both, eqb-is, leb-is}
+use Rattle.cells.specs.Cells.{at-none, at-neg, gained-in-row, Within, Gained, added, buyers, sellers, traded, nothing-gained, gained-at, gained-then, gained-same, within-gained}
 use Rattle.limits.specs.Limits.{mostPrice, mostVolume}
 use Rattle.market.specs.Market.{stepTrade}
 use Rattle.market.specs.Rules.{fullOrNone, stepOk, test}
@@ -29,8 +29,8 @@ use Rattle.market.specs.declared.Side.the-variants.{Sell, Buy}
 use Rattle.market.specs.declared.Trade.{Trade}
 use Rattle.market.specs.declared.Measure.{Measure}
 use Rattle.market.specs.declared.Measure.the-variants.{Buyers, Sellers, Traded, Net}
-use Rattle.rows.specs.Rows.{rowStart, fieldOk, stepFields}
-use Rattle.rows.specs.Sentences.{StepRow, step-row}
+use Rattle.rows.specs.Rows.{rowStart}
+use Rattle.rows.specs.Sentences.{StepRow}
 use Rattle.rows.specs.declared.Kind.the-variants.{Steps}
 use Rattle.day.specs.Day.{stepsPart}
 use Rattle.day.specs.declared.Counts.{Counts}
@@ -79,6 +79,11 @@ pub record BoughtAt (limit price : ℤ) (quantity volume cell : ℕ) (nets nets'
   pub nets-is : nets' ≡ added nets cell (negℤ (pos volume))
   pub sums-is : sums' ≡ added (added sums buyers (gain limit price volume)) traded (pos volume)
 
+-- by the slot of its head: the sells stand first
+pub record CountedAt (slot : ℕ) (limit price : ℤ) (quantity volume cell : ℕ) (nets nets' sums sums' : List ℤ) : Type 0 where
+  pub sells : slot < 256 → SoldAt limit price quantity volume cell nets nets' sums sums'
+  pub buys : 256 ≤ slot → BoughtAt limit price quantity volume cell nets nets' sums sums'
+
 -- ---- each answer of `taken_ok`, as the tests
 
 with-quantity : (a b : Bool) → (a ≡ true → b ≡ true) → (a ≡ (a && b)) × (a ≡ ((a && true) && b))
@@ -98,6 +103,33 @@ module _ (ask get : ℤ) (quantity volume : ℕ) where
 
   pub at-the-price : get ≼ ask → ask ≼ get → leb volume quantity ≡ (fullOrNone ask get quantity volume && leb volume quantity)
   at-the-price h k = rw (leZ-true get ask .1 h, leZ-true ask get .1 k)
+
+-- ---- a step that is not taken changes nothing
+
+nothing-added : (table : List ℤ) (k : ℕ) → added table k (pos 0) ≡ table
+nothing-added table k = rw (+ℤ-idr (getD table k (pos 0))) (set-getD table k (pos 0))
+
+no-gain : (get ask : ℤ) → gain get ask 0 ≡ pos 0
+no-gain get ask = simp ring (omega arith)
+
+module _ (limit price : ℤ) (quantity volume cell : ℕ) (nets sums : List ℤ) where
+  pub none-sold : price ≺ limit → eqb volume 0 ≡ true → SoldAt limit price quantity volume cell nets nets sums sums
+  none-sold h e =
+      let none = eqb-is volume 0 .0 e in
+      record {
+        kept = sym (not-at-all limit price quantity volume h) ∙ e;
+        nets-is = rw (none, nothing-added nets cell);
+        sums-is = rw (none, no-gain price limit, nothing-added sums sellers);
+      }
+
+  pub none-bought : limit ≺ price → eqb volume 0 ≡ true → BoughtAt limit price quantity volume cell nets nets sums sums
+  none-bought h e =
+      let none = eqb-is volume 0 .0 e in
+      record {
+        kept = sym (not-at-all price limit quantity volume h) ∙ e;
+        nets-is = rw (none, nothing-added nets cell);
+        sums-is = rw (none, no-gain limit price, nothing-added sums buyers, nothing-added sums traded);
+      }
 
 -- ---- how large
 
@@ -121,11 +153,6 @@ beside-fits sums rest x v long w e k =
     (omega (arith, long), more-fits (getD sums traded (pos 0)) v (held sums w traded (omega arith)) k)
 
 -- ---- a step's row, and its numbers
-
-pub row-is : (day : List ℕ) (periods zones i : ℕ) {part : List ℕ} → part ≡ stepsPart day → every 6 (stepFields periods zones part (2 + 12 * i)) ≡ true →
-    StepRow periods zones (stepsPart day) (rowStart Steps periods i)
-unfolding fieldOk
-row-is day periods zones i q t = step-row periods zones (stepsPart day) i .0 (rw q at t)
 
 module _ {c : Counts} {day clearing : List ℕ} (prices : PricesSmall c clearing) {i : ℕ} where
   trade-small : SureStep c day clearing i →
@@ -163,27 +190,9 @@ module _ {c : Counts} {day clearing : List ℕ} (prices : PricesSmall c clearing
 
 -- ---- one step counted
 
-at-nothing : (k s : ℕ) → at k (pos 0) s ≡ pos 0
-unfolding at
-at-nothing k s = by (eqb s k)
-  where
-    by : (b : Bool) → cond b (pos 0) (pos 0) ≡ pos 0
-    by true = refl
-    by false = refl
-
-at-minus : (k : ℕ) (x : ℤ) (s : ℕ) → at k (negℤ x) s ≡ negℤ (at k x s)
-unfolding at
-at-minus k x s = by (eqb s k)
-  where
-    by : (b : Bool) → cond b (negℤ x) (pos 0) ≡ negℤ (cond b x (pos 0))
-    by true = refl
-    by false = refl
-
 -- what is gained in a row of sums, at one place of it
 in-the-row : (s : ℕ) (x : ℤ) {sums sums' : List ℤ} → length sums ≡ 5 → s < 5 → sums' ≡ added sums s x → Gained 1 5 (λ _ k. at s x k) sums sums'
-in-the-row s x {sums} long l e =
-    gained-same (rw (← e) at (rw (zero-add s) at (gained-at {zones = 1} {periods = 5} {a = sums} 0 s (omega (arith, long)) l x)))
-    (λ z k b _. let none : z ≡ 0 = omega (arith, b) in rw (none, at-same))
+in-the-row s x {sums} long l e = rw (← e) at (gained-in-row sums s l long x)
 
 module _ (c : Counts) (day clearing : List ℕ) (i : ℕ) where
   -- the tests by which a step is sure, whatever its side
@@ -225,7 +234,7 @@ module _ (c : Counts) (day clearing : List ℕ) (i : ℕ) where
           sure = sure-step row (rw side (k .0)) (k .1);
           nets-gain = gained-same (in-its-cell _ (s .nets-is)) (λ z h _ _. rw (sold-is side (Net z h)));
           sums-gain = gained-same (in-the-row sellers _ long (omega arith) (s .sums-is)) (λ _ p _ _.
-              rw (sold-is side Buyers, sold-is side Sellers, sold-is side Traded, at-nothing, at-nothing) (simp linear (omega arith)));
+              rw (sold-is side Buyers, sold-is side Sellers, sold-is side Traded, at-none, at-none) (simp linear (omega arith)));
         }
 
     pub bought-counted : {sums sums' : List ℤ} → length sums ≡ 5 → stepOf day i .side ≡ Buy →
@@ -235,11 +244,11 @@ module _ (c : Counts) (day clearing : List ℕ) (i : ℕ) where
         let k = both _ _ .0 (s .kept) in
         record {
           sure = sure-step row (rw side (k .0)) (k .1);
-          nets-gain = gained-same (in-its-cell _ (s .nets-is)) (λ z h _ _. rw (bought-is side (Net z h), at-minus, at-minus));
+          nets-gain = gained-same (in-its-cell _ (s .nets-is)) (λ z h _ _. rw (bought-is side (Net z h), at-neg, at-neg));
           sums-gain = gained-same
               (gained-then (in-the-row buyers (gain (stepOf day i .limit) price (volumeOf clearing i)) {sums = sums} long (omega arith) refl)
               (in-the-row traded _ (rw (length-set sums buyers _) long) (omega arith) (s .sums-is)))
-              (λ _ p _ _. rw (bought-is side Buyers, bought-is side Sellers, bought-is side Traded, at-nothing) (simp linear (omega arith)));
+              (λ _ p _ _. rw (bought-is side Buyers, bought-is side Sellers, bought-is side Traded, at-none) (simp linear (omega arith)));
         }
 
 -- ---- the steps one after the other
@@ -266,11 +275,8 @@ module _ {l l' p p' : ℤ} {q q' k k' : ℕ} (limit : l ≡ l') (price : p ≡ p
   ready-by h = rw (limit, price, quantity, cell) h
 
   module _ {v v' : ℕ} (volume : v ≡ v') {nets nets' sums sums' : List ℤ} where
-    pub sold-by : SoldAt l p q v k nets nets' sums sums' → SoldAt l' p' q' v' k' nets nets' sums sums'
-    sold-by h = rw (limit, price, quantity, cell, volume) at h
-
-    pub bought-by : BoughtAt l p q v k nets nets' sums sums' → BoughtAt l' p' q' v' k' nets nets' sums sums'
-    bought-by h = rw (limit, price, quantity, cell, volume) at h
+    pub counted-by : {slot : ℕ} → CountedAt slot l p q v k nets nets' sums sums' → CountedAt slot l' p' q' v' k' nets nets' sums sums'
+    counted-by h = rw (limit, price, quantity, cell, volume) at h
 
 module _ {c : Counts} {day clearing : List ℕ} where
   pub none-counted : {nets sums : List ℤ} → StepsCounted c day clearing 0 nets nets sums sums

@@ -2,3 +2,5 @@
 pub mod Sure
 -- The laws by which a step is counted.
 pub mod Count
+-- The heads of the rows that a day allows.
+pub mod Known

@@ -13,31 +13,41 @@ use lib.ListN.{getD}
 use borrow.Author.Needs.{needs}
 use borrow.Author.Tests.{not-false}
 use Rattle.whole.specs.Size.{same, abs-neg}
+use Rattle.whole.specs.Ring.{given, linear}
 use Rattle.stages.specs.First.{apart, both, leb-is}
 use Rattle.limits.specs.Limits.{mostVolume}
 use Rattle.cells.specs.Cells.{buyers}
 use Rattle.market.specs.Rules.{fullOrNone}
 use Rattle.market.specs.Measures.{gain}
-use Rattle.steps.specs.Count.{more-fits, gain-size, held, beside-fits}
+use Rattle.steps.specs.Count.{none-bought, more-fits, gain-size, held, beside-fits}
 use Rattle.steps.proofs.count_bought.Statement.{statement}
 use Rattle.steps.proofs.count_bought.Tie as tie
+
+-- it gets less than it asks
+returns : tie.Need-returns
+returns c e =
+    let s = c .before in
+    let a = s .args in
+    none-bought (a .limit) (a .price) (a .quantity) (a .volume) (a .cell) (now (a .nets)) (now (a .sums))
+    (given (rw (toZ-ofZ w64 (a .limit) (s .fits .limit), toZ-ofZ w64 (a .price) (s .fits .price)) at (c .if1 .taken)) (simp linear (omega arith)))
+    e
 
 taken-ok-requires : tie.Need-taken-ok-requires
 taken-ok-requires c κs = search needs
 
-returns : tie.Need-returns
-returns c e = apart e refl
+returns-2 : tie.Need-returns-2
+returns-2 c e = apart e refl
 
 -- the tests that hold behind the first one
-kept : (c : tie.Else1) → let a = c .before .before .args in
+kept : (c : tie.Else2) → let a = c .before .before .before .args in
     (fullOrNone (a .price) (a .limit) (a .quantity) (a .volume) && leb (a .volume) (a .quantity)) ≡ true
 kept c =
-    let s = c .before .before in
-    rw (toZ-ofZ w64 (s .args .limit) (s .fits .limit), toZ-ofZ w64 (s .args .price) (s .fits .price)) at (sym (c .before .taken-ok .ensures) ∙ not-false _ (c .if1 .left))
+    let s = c .before .before .before in
+    rw (toZ-ofZ w64 (s .args .limit) (s .fits .limit), toZ-ofZ w64 (s .args .price) (s .fits .price)) at (sym (c .before .taken-ok .ensures) ∙ not-false _ (c .if2 .left))
 
-volume-small : (c : tie.Else1) → c .before .before .args .volume ≤ mostVolume
+volume-small : (c : tie.Else2) → c .before .before .before .args .volume ≤ mostVolume
 volume-small c =
-    let s = c .before .before in
+    let s = c .before .before .before in
     let a = s .args in
     omega (
       arith,
@@ -47,20 +57,20 @@ volume-small c =
 
 gain-requires : tie.Need-gain-requires
 gain-requires c κs =
-    let s = c .before .before .before in
+    let s = c .before .before .before .before in
     rw (toZ-ofZ w64 (s .args .limit) (s .fits .limit), toZ-ofZ w64 (s .args .price) (s .fits .price))
     (s .pre .0 .limit-small, (s .pre .0 .price-small, volume-small (c .before)))
 
-gain-is : (c : tie.After-gain) → let a = c .before .before .before .before .args in
+gain-is : (c : tie.After-gain) → let a = c .before .before .before .before .before .args in
     toZ w64 (ofZ w64 (c .gain .result)) ≡ gain (a .limit) (a .price) (a .volume)
 gain-is c =
-    let s = c .before .before .before .before in
+    let s = c .before .before .before .before .before in
     same (c .gain .result) (c .gain .ok) ∙ c .gain .ensures
     ∙ rw (toZ-ofZ w64 (s .args .limit) (s .fits .limit), toZ-ofZ w64 (s .args .price) (s .fits .price))
 
 add-at-requires : tie.Need-add-at-requires
 add-at-requires c κs =
-    let s = c .before .before .before .before in
+    let s = c .before .before .before .before .before in
     let near = s .pre .0 in
     let room = s .pre .1 in (
       omega (arith, room .sums-long),
@@ -77,7 +87,7 @@ add-at-requires-2 : tie.Need-add-at-requires-2
 add-at-requires-2 c κs =
     let add = c .before .before .before in
     let else = add .before .before .before in
-    let s = else .before .before in
+    let s = else .before .before .before in
     let room = s .pre .1 in
     rw (same (c .wide .result) (c .wide .ok), c .wide .ensures)
     (beside-fits (now (s .args .sums)) (add .add-at .last .0) _ (pos (s .args .volume)) (room .sums-long) (room .sums-within) (add .add-at .ensures)
@@ -92,7 +102,7 @@ negative-requires c κs =
     rw (same (c .wide2 .result) (c .wide2 .ok), c .wide2 .ensures) (volume-small else)
 
 taken-away : (c : tie.After-negative) →
-    toZ w64 (ofZ w64 (c .negative .result)) ≡ negℤ (pos (c .before .before .before .before .before .before .before .before .before .before .before .before .before .args .volume))
+    toZ w64 (ofZ w64 (c .negative .result)) ≡ negℤ (pos (c .before .before .before .before .before .before .before .before .before .before .before .before .before .before .args .volume))
 taken-away c =
     let wide = c .before .wide2 in
     same (c .negative .result) (c .negative .ok) ∙ c .negative .ensures ∙ rw (same (wide .result) (wide .ok), wide .ensures)
@@ -100,7 +110,7 @@ taken-away c =
 add-at-requires-3 : tie.Need-add-at-requires-3
 add-at-requires-3 c κs =
     let else = c .before .before .before .before .before .before .before .before .before .before .before in
-    let s = else .before .before in
+    let s = else .before .before .before in
     let v = pos (s .args .volume) in
     let room = s .pre .1 in (
       room .cell-is,
@@ -114,8 +124,8 @@ same-length c = search needs
 same-length-2 : tie.Need-same-length-2
 same-length-2 c = search needs
 
-returns-2 : tie.Need-returns-2
-returns-2 c e =
+returns-3 : tie.Need-returns-3
+returns-3 c e =
     let negative = c .before .before in
     let add2 = c .before .before .before .before .before .before in
     let wide = add2 .before .wide in
@@ -131,8 +141,9 @@ pub count-bought-spec : {M : Type 1} → statement M
 count-bought-spec =
     tie.close
     (tie.spec
-    taken-ok-requires
     returns
+    taken-ok-requires
+    returns-2
     gain-requires
     add-at-requires
     wide-requires
@@ -142,4 +153,4 @@ count-bought-spec =
     add-at-requires-3
     same-length
     same-length-2
-    returns-2)
+    returns-3)

@@ -1,76 +1,55 @@
 -- `steps::count_steps` meets its contract. Assumes nothing.
-use Prim.Native.Nat.{_-_, _≤_}
-use native.Mathlib.Nat.{le-antisymm, le-trans}
-use native.Mathlib.Omega.{arith}
-use mathlib.Core.Path.{refl, sym, _∙_}
+use mathlib.Core.Path.{refl}
 use borrow.Author.Needs.{needs}
-use borrow.Author.Tests.{not-false}
-use Rattle.stages.specs.First.{apart}
-use Rattle.steps.specs.Sure.{StepsCounted}
-use Rattle.steps.specs.Count.{none-counted, more-counted, still-ready}
+use Rattle.steps.specs.Known.{nothing-known}
 use Rattle.steps.proofs.count_steps.Statement.{statement}
 use Rattle.steps.proofs.count_steps.Tie as tie
 
-abbrev Inv-loop : tie.InvT-loop
-Inv-loop day clearing counts nets₀ sums₀ i₀ i-end nets sums i = (i ≤ counts .steps) × StepsCounted counts day clearing i nets₀ nets sums₀ sums
+slice-aggregate-know-all : tie.Need-slice-aggregate-know-all
+slice-aggregate-know-all c = search needs
 
-abbrev μ-loop : tie.MeasureT-loop
-μ-loop day clearing counts nets₀ sums₀ i₀ i-end nets sums i = counts .steps - i
+slice-aggregate-know-all-2 : tie.Need-slice-aggregate-know-all-2
+slice-aggregate-know-all-2 c = search needs
 
-loop-holds : tie.Need-loop-holds Inv-loop μ-loop
-loop-holds c = (omega arith, none-counted)
+slice-aggregate-know-all-3 : tie.Need-slice-aggregate-know-all-3
+slice-aggregate-know-all-3 c = search needs
 
-count-step-requires : tie.Need-count-step-requires Inv-loop μ-loop
-count-step-requires c κs =
-    let s = c .before .before .before .before .before .before in
-    let l = c .before .before in
-    let inv = l .before .loop .inv in
-    (still-ready (inv .1) (s .pre) (le-trans (inv .0) (s .pre .framed .of-clearing .limits .steps-most)), l .loop-test .taken)
+know-all-requires : tie.Need-know-all-requires
+know-all-requires c κs = (c .before .before .before .before .before .pre .framed .of-clearing, nothing-known refl refl)
 
-same-length : tie.Need-same-length Inv-loop μ-loop
+slice-aggregate-count-all : tie.Need-slice-aggregate-count-all
+slice-aggregate-count-all c = search needs
+
+slice-aggregate-count-all-2 : tie.Need-slice-aggregate-count-all-2
+slice-aggregate-count-all-2 c = search needs
+
+slice-aggregate-count-all-3 : tie.Need-slice-aggregate-count-all-3
+slice-aggregate-count-all-3 c = search needs
+
+count-all-requires : tie.Need-count-all-requires
+count-all-requires c κs = search needs
+
+same-length : tie.Need-same-length
 same-length c = search needs
 
-same-length-2 : tie.Need-same-length-2 Inv-loop μ-loop
+same-length-2 : tie.Need-same-length-2
 same-length-2 c = search needs
 
-returns : tie.Need-returns Inv-loop μ-loop
-returns c e = apart e refl
-
-add-i : tie.Need-add-i Inv-loop μ-loop
-add-i c = omega arith
-
-loop-less : tie.Need-loop-less Inv-loop μ-loop
-loop-less c = omega arith
-
-loop-again : tie.Need-loop-again Inv-loop μ-loop
-loop-again c =
-    let step = c .before .before .before in
-    let l = step .before .before .before in
-    (omega (arith, l .loop-test .taken), more-counted (l .before .loop .inv .1) (step .count-step .ensures (not-false _ (c .if1 .left))))
-
-same-length-3 : tie.Need-same-length-3 Inv-loop μ-loop
-same-length-3 c = search needs
-
-same-length-4 : tie.Need-same-length-4 Inv-loop μ-loop
-same-length-4 c = search needs
-
-returns-2 : tie.Need-returns-2 Inv-loop μ-loop
-returns-2 c e = rw (le-antisymm (c .before .loop .inv .0) (c .loop-test .left)) at (c .before .loop .inv .1)
+returns : tie.Need-returns
+returns c = search needs
 
 pub count-steps-spec : {M : Type 1} → statement M
 count-steps-spec =
     tie.close
     (tie.spec
-    Inv-loop
-    μ-loop
-    loop-holds
-    count-step-requires
+    slice-aggregate-know-all
+    slice-aggregate-know-all-2
+    slice-aggregate-know-all-3
+    know-all-requires
+    slice-aggregate-count-all
+    slice-aggregate-count-all-2
+    slice-aggregate-count-all-3
+    count-all-requires
     same-length
     same-length-2
-    returns
-    add-i
-    loop-less
-    loop-again
-    same-length-3
-    same-length-4
-    returns-2)
+    returns)
