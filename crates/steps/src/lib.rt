@@ -298,10 +298,10 @@ pub fn count_steps(
     requires { ⌜ Ready counts (now day) (now clearing) most (now nets) (now sums) ⌝ }
     ensures { λ r. ⌜ (r ≡ true → StepsCounted counts (now (day .entry)) (now (clearing .entry)) (counts .steps) (now (nets .entry)) (now (nets .exit)) (now (sums .entry)) (now (sums .exit))) ⌝ }
 {
-    // No four bytes are this number.
+    // No four bytes are this number, so a slot that is not filled is never hit.
     let mut heads = [4294967296usize; 512];
-    let mut prices = [0i64; 512];
-    let mut places = [0usize; 512];
+    let mut prices = [4294967296i64; 512];
+    let mut places = [4294967296usize; 512];
     know_all(clearing, counts, &mut heads, &mut prices, &mut places);
     count_all(day, clearing, counts, &heads, &prices, &places, nets, sums)
 }
