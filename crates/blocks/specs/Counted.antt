@@ -177,7 +177,8 @@ module _ (c : Counts) (day clearing : List ℕ) (k : ℕ) where
     -- what it gives, by the surplus and the volumes of what is accepted
     gives-is : (accepted : ℤ) → blockMeasured (dayOf c day) (pricesOf c clearing) Surplus k (ratioOf clearing k) ≡ accepted → (i : ℕ) →
         blockGives c day clearing k i
-        ≡ shared (blockAt (blocksPart day) start .side) accepted (sum (c .periods) (λ h. pos (blockVolume (ratioOf clearing k) (blockQuantity (blocksPart day) start h)))) i
+        ≡ shared (blockAt (blocksPart day) start .side) accepted
+        (sum (c .periods) (λ h. pos (blockVolume (ratioOf clearing k) (blockQuantity (blocksPart day) start h)))) i
         +ℤ at shortfall (above-zero (surplus -ℤ accepted)) i
     unfolding blockOf quantityOf
     gives-is accepted e i =
@@ -198,9 +199,11 @@ module _ (c : Counts) (day clearing : List ℕ) (k : ℕ) where
         let p = pricesOf c clearing in
         let ch = choiceOf c clearing in
         record {
-          sure = sure (λ h _. rw none (rejected-never-refused 0 (blockQuantity (blocksPart day) start h) surplus .1 .0)) (rw none (rejected-never-refused 0 0 surplus .1 .1));
+          sure = sure (λ h _. rw none (rejected-never-refused 0 (blockQuantity (blocksPart day) start h) surplus .1 .0))
+              (rw none (rejected-never-refused 0 0 surplus .1 .1));
           nets = gained-same nothing-gained (λ z h _ _. sym (nothing-brought d p ch k none z h));
-          sums = gained-same g (λ z i _ _. sym (gives-is (pos 0) (none-accepted d p ch k none) i ∙ rw (volumes-none none) (none-shared (blockAt (blocksPart day) start .side) surplus i)));
+          sums = gained-same g (λ z i _ _.
+              sym (gives-is (pos 0) (none-accepted d p ch k none) i ∙ rw (volumes-none none) (none-shared (blockAt (blocksPart day) start .side) surplus i)));
         }
 
     -- accepted, at a ratio that makes its volumes whole
@@ -243,10 +246,12 @@ module _ (c : Counts) (day clearing : List ℕ) (k : ℕ) where
           BlockCounted c day clearing k nets nets sums₀ sums₁) (rejected t)
 
       pub accepted-read : {nets₀ nets₁ sums₀ sums₁ : List ℤ} →
-          Accepted (c .zones) (c .periods) (b .zone) (b .side) ratio (blockQuantity part at) (surplusBy (b .side) (b .limit) all worth) nets₀ nets₁ sums₀ sums₁ →
+          Accepted (c .zones) (c .periods) (b .zone) (b .side) ratio (blockQuantity part at) (surplusBy (b .side) (b .limit) all worth)
+          nets₀ nets₁ sums₀ sums₁ →
           BlockCounted c day clearing k nets₀ nets₁ sums₀ sums₁
       accepted-read {nets₀} {nets₁} {sums₀} {sums₁} =
-          read-as r (λ part at b ratio. Accepted (c .zones) (c .periods) (b .zone) (b .side) ratio (blockQuantity part at) (surplusBy (b .side) (b .limit) all worth)
+          read-as r (λ part at b ratio.
+          Accepted (c .zones) (c .periods) (b .zone) (b .side) ratio (blockQuantity part at) (surplusBy (b .side) (b .limit) all worth)
           nets₀ nets₁ sums₀ sums₁ → BlockCounted c day clearing k nets₀ nets₁ sums₀ sums₁) (accepted t)
 
 -- ---- block by block
@@ -270,7 +275,8 @@ module _ {c : Counts} {day clearing : List ℕ} where
           omega (
             arith,
             within-gained (t .nets) {bound = 1000000000000000000} {more = 5000000000000000} w
-                (λ y i _ _. sum-within n mostBlocks (λ k. blockBrings c day clearing k y i) 50000000000000 many (λ k j. brings-small c day clearing k (t .sure k j) prices few y i)) z h l m,
+                (λ y i _ _. sum-within n mostBlocks (λ k. blockBrings c day clearing k y i) 50000000000000 many
+                (λ k j. brings-small c day clearing k (t .sure k j) prices few y i)) z h l m,
           )
 
       pub sums-within : Within 1 5 1000000000000000000 sums₀ → Within 1 5 2000000000000000000 sums₁
@@ -278,5 +284,6 @@ module _ {c : Counts} {day clearing : List ℕ} where
           omega (
             arith,
             within-gained (t .sums) {bound = 1000000000000000000} {more = 25000000000000000} w
-                (λ _ i _ _. sum-within n mostBlocks (λ k. blockGives c day clearing k i) 250000000000000 many (λ k j. gives-small c day clearing k (t .sure k j) prices few i)) z h l m,
+                (λ _ i _ _. sum-within n mostBlocks (λ k. blockGives c day clearing k i) 250000000000000 many
+                (λ k j. gives-small c day clearing k (t .sure k j) prices few i)) z h l m,
           )

@@ -111,4 +111,6 @@ module _ (d : Day) (p : Prices) (c : Choice) (k : ℕ) where
     none-volumes = sum-zero (d .periods) _ (λ h _. rw (none, no-volume))
 
     pub nothing-brought : (z h : ℕ) → blockMeasured d p (Net z h) k (c .ratio k) ≡ pos 0
-    nothing-brought z h = net-is d p k (c .ratio k) z h ∙ sum-zero (d .periods) _ (λ i _. rw (none, no-volume) (nothing-at (d .block k .side) (d .block k .zone) i z h))
+    nothing-brought z h =
+        net-is d p k (c .ratio k) z h
+        ∙ sum-zero (d .periods) _ (λ i _. rw (none, no-volume) (nothing-at (d .block k .side) (d .block k .zone) i z h))

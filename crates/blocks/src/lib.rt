@@ -85,7 +85,8 @@ fn either(a: u32, b: u32) -> u32
 fn over_periods(part: &[u8], at: usize, clearing: &[u8], counts: Counts, zone: usize) -> Walked
     requires { ⌜ at + (8 + 4 * counts .periods) ≤ length (now part) ⌝ }
     requires { ⌜ (OfClearing (now clearing) counts) × ((PricesSmall counts (now clearing)) × (zone < counts .zones)) ⌝ }
-    ensures { λ r. ⌜ WalkedTo (blockQuantity (now (part .entry)) at) (pricesOf counts (now (clearing .entry)) zone) (counts .periods) (r .all) (r .worth) (r .bits) ⌝ }
+    ensures { λ r. ⌜ WalkedTo (blockQuantity (now (part .entry)) at) (pricesOf counts (now (clearing .entry)) zone)
+        (counts .periods) (r .all) (r .worth) (r .bits) ⌝ }
 {
     let mut all: u64 = 0;
     let mut worth: u64 = 0;
@@ -149,7 +150,8 @@ fn add_volumes(
 ) -> u64
     requires { ⌜ Ready counts (now part) at zone ratio ⌝ }
     requires { ⌜ (length (now nets) ≡ 200) × (Within (counts .zones) (counts .periods) 2000000000000000000 (now nets)) ⌝ }
-    ensures { λ r. ⌜ BroughtTo (counts .zones) (counts .periods) zone side (λ h. blockVolume ratio (blockQuantity (now (part .entry)) at h)) (counts .periods) r (now (nets .entry)) (now (nets .exit)) ⌝ }
+    ensures { λ r. ⌜ BroughtTo (counts .zones) (counts .periods) zone side (λ h. blockVolume ratio (blockQuantity (now (part .entry)) at h))
+        (counts .periods) r (now (nets .entry)) (now (nets .exit)) ⌝ }
 {
     let mut volumes: u64 = 0;
     for period in 0..counts.periods {
@@ -220,7 +222,8 @@ fn accept(
     requires { ⌜ (pos all ≡ sum (counts .periods) (λ h. pos (blockQuantity (now part) at h))) × (natAbs surplus ≤ 50000000000000) ⌝ }
     requires { ⌜ (length (now nets) ≡ 200) × (Within (counts .zones) (counts .periods) 2000000000000000000 (now nets)) ⌝ }
     requires { ⌜ (length (now sums) ≡ 5) × (Within 1 5 2000000000000000000 (now sums)) ⌝ }
-    ensures { λ r. ⌜ (r ≡ true → Accepted (counts .zones) (counts .periods) zone side ratio (blockQuantity (now (part .entry)) at) surplus (now (nets .entry)) (now (nets .exit)) (now (sums .entry)) (now (sums .exit))) ⌝ }
+    ensures { λ r. ⌜ (r ≡ true → Accepted (counts .zones) (counts .periods) zone side ratio (blockQuantity (now (part .entry)) at) surplus
+        (now (nets .entry)) (now (nets .exit)) (now (sums .entry)) (now (sums .exit))) ⌝ }
 {
     if surplus < 0 {
         return false;
@@ -246,7 +249,8 @@ fn count_block(
     requires { ⌜ (Framed (now day) (now clearing) counts) × ((PricesSmall counts (now clearing)) × (row < counts .blocks)) ⌝ }
     requires { ⌜ (length (now nets) ≡ 200) × (Within (counts .zones) (counts .periods) 2000000000000000000 (now nets)) ⌝ }
     requires { ⌜ (length (now sums) ≡ 5) × (Within 1 5 2000000000000000000 (now sums)) ⌝ }
-    ensures { λ r. ⌜ (r ≡ true → BlockCounted counts (now (day .entry)) (now (clearing .entry)) row (now (nets .entry)) (now (nets .exit)) (now (sums .entry)) (now (sums .exit))) ⌝ }
+    ensures { λ r. ⌜ (r ≡ true → BlockCounted counts (now (day .entry)) (now (clearing .entry)) row
+        (now (nets .entry)) (now (nets .exit)) (now (sums .entry)) (now (sums .exit))) ⌝ }
 {
     let part = parts::blocks_part(day, counts);
     let at = book::row_start(Kind::Blocks, counts.periods, row);
@@ -300,7 +304,8 @@ pub fn count_blocks(
     requires { ⌜ (Framed (now day) (now clearing) counts) × (PricesSmall counts (now clearing)) ⌝ }
     requires { ⌜ (length (now nets) ≡ 200) × (length (now sums) ≡ 5) ⌝ }
     requires { ⌜ (Within (counts .zones) (counts .periods) 1000000000000000000 (now nets)) × (Within 1 5 1000000000000000000 (now sums)) ⌝ }
-    ensures { λ r. ⌜ (r ≡ true → BlocksCounted counts (now (day .entry)) (now (clearing .entry)) (now (nets .entry)) (now (nets .exit)) (now (sums .entry)) (now (sums .exit))) ⌝ }
+    ensures { λ r. ⌜ (r ≡ true → BlocksCounted counts (now (day .entry)) (now (clearing .entry))
+        (now (nets .entry)) (now (nets .exit)) (now (sums .entry)) (now (sums .exit))) ⌝ }
 {
     for row in 0..counts.blocks {
         if !count_block(day, clearing, counts, row, nets, sums) {

@@ -119,7 +119,8 @@ module _ {zones periods : ℕ} where
     pub gained-same : {g : ℕ → ℕ → ℤ} → ((zone period : ℕ) → zone < zones → period < periods → f zone period ≡ g zone period) → Gained zones periods g a b
     gained-same e = record { long = s .long; each = λ z h l k. rw (← e z h l k) (s .each z h l k) }
 
-    pub within-gained : {bound more : ℕ} → Within zones periods bound a → ((zone period : ℕ) → zone < zones → period < periods → natAbs (f zone period) ≤ more) →
+    pub within-gained : {bound more : ℕ} → Within zones periods bound a →
+        ((zone period : ℕ) → zone < zones → period < periods → natAbs (f zone period) ≤ more) →
         Within zones periods (bound + more) b
     within-gained w m z h l k = rw (s .each z h l k) (omega (arith, abs-+ (getD a (z * periods + h) (pos 0)) (f z h), w z h l k, m z h l k))
 

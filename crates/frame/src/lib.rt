@@ -10,7 +10,8 @@ ghost use Rattle.rows.specs.Rows.{rowSize};
 ghost use Rattle.reader.specs.Reader.{GoodRows, HeadRows};
 ghost use Rattle.day.specs.Good.{InLimits};
 ghost use Rattle.frame.specs.Opened.{Says};
-ghost use Rattle.frame.specs.Chain.{countOf, Counted, Surely, FromEnd, FromBlocks, FromSteps, FromLines, FromZones, FromPeriods, FromRatios, FromVolumes, FromFlows, FromPrices};
+ghost use Rattle.frame.specs.Chain.{countOf, Counted, Surely, FromEnd, FromBlocks, FromSteps, FromLines, FromZones, FromPeriods};
+ghost use Rattle.frame.specs.Chain.{FromRatios, FromVolumes, FromFlows, FromPrices};
 
 // The frames of both files are good, and these are the counts; a doubt says nothing.
 pub enum Frame {

@@ -124,7 +124,13 @@ module _ {c : Counts} {ends : Line} {period : ℕ} {flow : ℤ} {table : List �
         rw (f, o, from-gained .long, k .long) (
           cell-is (k .to-is),
           fits-i64 _
-              (omega (arith, room _ _ (k .to-is) (k .period-is), k .small, abs-neg flow, abs-+ (getD after (ends .to * c .periods + period) (pos 0)) (negℤ flow))),
+              (omega (
+                arith,
+                room _ _ (k .to-is) (k .period-is),
+                k .small,
+                abs-neg flow,
+                abs-+ (getD after (ends .to * c .periods + period) (pos 0)) (negℤ flow),
+              )),
         )
 
     pub both-gained : {cell : ℕ} {y : ℤ} {end : List ℤ} → cell ≡ ends .to * c .periods + period → y ≡ negℤ flow → end ≡ added after cell y →

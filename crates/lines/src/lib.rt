@@ -110,7 +110,8 @@ fn count_flow(
     sums: &mut [i64],
 ) -> bool
     requires { ⌜ FlowAsks counts (now clearing) line period ends (now flows) (now sums) ⌝ }
-    ensures { λ r. ⌜ (r ≡ true → FlowCounted counts (now (clearing .entry)) line period ends forward back (now (flows .entry)) (now (flows .exit)) (now (sums .entry)) (now (sums .exit))) ⌝ }
+    ensures { λ r. ⌜ (r ≡ true → FlowCounted counts (now (clearing .entry)) line period ends forward back
+        (now (flows .entry)) (now (flows .exit)) (now (sums .entry)) (now (sums .exit))) ⌝ }
 {
     let flow = book::flow_of(clearing, counts, line, period);
     let from = book::price_of(clearing, counts, ends.from, period);
@@ -134,7 +135,8 @@ fn count_line(
     sums: &mut [i64],
 ) -> bool
     requires { ⌜ LineAsks counts (now clearing) (now part) at line (now flows) (now sums) ⌝ }
-    ensures { λ r. ⌜ (r ≡ true → LineCounted counts (now (clearing .entry)) (now (part .entry)) at line (now (flows .entry)) (now (flows .exit)) (now (sums .entry)) (now (sums .exit))) ⌝ }
+    ensures { λ r. ⌜ (r ≡ true → LineCounted counts (now (clearing .entry)) (now (part .entry)) at line
+        (now (flows .entry)) (now (flows .exit)) (now (sums .entry)) (now (sums .exit))) ⌝ }
 {
     let ends = book::line_at(part, at);
     if !((ends.from < counts.zones) & (ends.to < counts.zones) & (ends.to != ends.from)) {
@@ -168,7 +170,8 @@ pub fn count_lines(
     requires { ⌜ (Framed (now day) (now clearing) counts) × (PricesSmall counts (now clearing)) ⌝ }
     requires { ⌜ (length (now flows) ≡ 200) × (length (now sums) ≡ 5) ⌝ }
     requires { ⌜ (Within (counts .zones) (counts .periods) 1000000000000000000 (now flows)) × (Within 1 5 1000000000000000000 (now sums)) ⌝ }
-    ensures { λ r. ⌜ (r ≡ true → LinesCounted counts (now (day .entry)) (now (clearing .entry)) (now (flows .entry)) (now (flows .exit)) (now (sums .entry)) (now (sums .exit))) ⌝ }
+    ensures { λ r. ⌜ (r ≡ true → LinesCounted counts (now (day .entry)) (now (clearing .entry))
+        (now (flows .entry)) (now (flows .exit)) (now (sums .entry)) (now (sums .exit))) ⌝ }
 {
     let part = parts::lines_part(day, counts);
     for line in 0..counts.lines {

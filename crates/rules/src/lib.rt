@@ -69,7 +69,8 @@ fn whole_holds(day: &[u8], clearing: &[u8], counts: Counts, row: usize, period: 
 // Over the tables of the net positions and of the flows.
 fn balance_holds(counts: Counts, nets: &[i64], flows: &[i64], zone: usize, period: usize) -> bool
     requires { ⌜ (zone * counts .periods + period < 200) × ((length (now nets) ≡ 200) × (length (now flows) ≡ 200)) ⌝ }
-    ensures { λ r. ⌜ r ≡ equal (getD (now (nets .entry)) (zone * counts .periods + period) (pos 0)) (getD (now (flows .entry)) (zone * counts .periods + period) (pos 0)) ⌝ }
+    ensures { λ r. ⌜ r ≡ equal (getD (now (nets .entry)) (zone * counts .periods + period) (pos 0))
+        (getD (now (flows .entry)) (zone * counts .periods + period) (pos 0)) ⌝ }
 {
     let cell = cells::cell(counts.periods, zone, period);
     market::equal(nets[cell], flows[cell])

@@ -19,7 +19,8 @@ use Rattle.whole.specs.Ring.{given, linear, ring, leZ-true, leZ-false}
 use Rattle.whole.specs.Sums.{sum-next}
 use Rattle.whole.specs.Size.{fits-i64, abs-le, abs-+, abs--, abs-*-≤, at-size, sum-within}
 use Rattle.stages.specs.First.{both, eqb-is, leb-is}
-use Rattle.cells.specs.Cells.{at-none, at-neg, gained-in-row, Within, Gained, added, buyers, sellers, traded, nothing-gained, gained-at, gained-then, gained-same, within-gained}
+use Rattle.cells.specs.Cells.{at-none, at-neg, gained-in-row}
+use Rattle.cells.specs.Cells.{Within, Gained, added, buyers, sellers, traded, nothing-gained, gained-at, gained-then, gained-same, within-gained}
 use Rattle.limits.specs.Limits.{mostPrice, mostVolume}
 use Rattle.market.specs.Market.{stepTrade}
 use Rattle.market.specs.Rules.{fullOrNone, stepOk, test}
@@ -223,10 +224,12 @@ module _ (c : Counts) (day clearing : List ℕ) (i : ℕ) where
     in-its-cell : (x : ℤ) → nets' ≡ added nets (stepOf day i .zone * c .periods + stepOf day i .period) x →
         Gained (c .zones) (c .periods) (λ z h. at (stepOf day i .zone) (at (stepOf day i .period) x h) z) nets nets'
     unfolding stepOf
-    in-its-cell x e = rw (← e) at (gained-at {zones = c .zones} {periods = c .periods} {a = nets} (stepOf day i .zone) (stepOf day i .period) inside (row .period-is) x)
+    in-its-cell x e =
+        rw (← e) at (gained-at {zones = c .zones} {periods = c .periods} {a = nets} (stepOf day i .zone) (stepOf day i .period) inside (row .period-is) x)
 
     pub sold-counted : {sums sums' : List ℤ} → length sums ≡ 5 → stepOf day i .side ≡ Sell →
-        SoldAt (stepOf day i .limit) price (stepOf day i .quantity) (volumeOf clearing i) (stepOf day i .zone * c .periods + stepOf day i .period) nets nets' sums sums' →
+        SoldAt (stepOf day i .limit) price (stepOf day i .quantity) (volumeOf clearing i) (stepOf day i .zone * c .periods + stepOf day i .period)
+        nets nets' sums sums' →
         StepCounted c day clearing i nets nets' sums sums'
     sold-counted long side s =
         let k = both _ _ .0 (s .kept) in
@@ -238,7 +241,8 @@ module _ (c : Counts) (day clearing : List ℕ) (i : ℕ) where
         }
 
     pub bought-counted : {sums sums' : List ℤ} → length sums ≡ 5 → stepOf day i .side ≡ Buy →
-        BoughtAt (stepOf day i .limit) price (stepOf day i .quantity) (volumeOf clearing i) (stepOf day i .zone * c .periods + stepOf day i .period) nets nets' sums sums' →
+        BoughtAt (stepOf day i .limit) price (stepOf day i .quantity) (volumeOf clearing i) (stepOf day i .zone * c .periods + stepOf day i .period)
+        nets nets' sums sums' →
         StepCounted c day clearing i nets nets' sums sums'
     bought-counted {sums} long side s =
         let k = both _ _ .0 (s .kept) in
@@ -288,7 +292,8 @@ module _ {c : Counts} {day clearing : List ℕ} where
   }
 
   module _ {n : ℕ} {nets nets' sums sums' : List ℤ} (a : StepsCounted c day clearing n nets nets' sums sums') where
-    pub more-counted : {nets'' sums'' : List ℤ} → StepCounted c day clearing n nets' nets'' sums' sums'' → StepsCounted c day clearing (n + 1) nets nets'' sums sums''
+    pub more-counted : {nets'' sums'' : List ℤ} → StepCounted c day clearing n nets' nets'' sums' sums'' →
+        StepsCounted c day clearing (n + 1) nets nets'' sums sums''
     more-counted s = record {
       sure = λ i l. ⊎-elim (λ e. rw e (s .sure)) (λ k. a .sure i k) (eq-or-lt-of-le (le-of-suc-le-suc (rw add-one at l)));
       nets-gain = gained-same (gained-then (a .nets-gain) (s .nets-gain)) (λ z h _ _. rw sum-next);

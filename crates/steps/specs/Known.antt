@@ -133,11 +133,13 @@ pub record Placed (c : Counts) (day clearing : List ℕ) (i slot : ℕ) (price :
   pub price-is : price ≡ pricesOf c clearing (stepOf day i .zone) (stepOf day i .period)
   pub place-is : place ≡ stepOf day i .zone * c .periods + stepOf day i .period
 
-pub placed : (c : Counts) (day clearing : List ℕ) (i : ℕ) {slot head place : ℕ} {price : ℤ} → InLimits c → FourBytes (stepsPart day) (2 + 12 * i) →
+pub placed : (c : Counts) (day clearing : List ℕ) (i : ℕ) {slot head place quantity : ℕ} {price limit : ℤ} → InLimits c →
+    FourBytes (stepsPart day) (2 + 12 * i) →
     head ≡ u32At (stepsPart day) (2 + 12 * i) → Head c clearing slot head price place →
-    (isPrice (stepPrice (stepsPart day) (2 + 12 * i)) && isQuantity (stepQuantity (stepsPart day) (2 + 12 * i))) ≡ true → Placed c day clearing i slot price place
+    limit ≡ stepPrice (stepsPart day) (2 + 12 * i) → quantity ≡ stepQuantity (stepsPart day) (2 + 12 * i) → (isPrice limit && isQuantity quantity) ≡ true →
+    Placed c day clearing i slot price place
 unfolding stepOf
-placed c day clearing i limits f e h t =
+placed c day clearing i limits f e h l k t =
     let part = stepsPart day in
     let at = 2 + 12 * i in
     let same = sym e ∙ h .head-is in
@@ -147,7 +149,7 @@ placed c day clearing i limits f e h t =
     let b3 = getD part (at + 3) 0 in
     let all = digits b0 b1 b2 b3 (h .zone) (h .period) (h .side) (f .first) (f .second) (f .third) (f .fourth) (omega (arith, h .zone-is, limits .zones-most))
     (omega (arith, h .period-is, limits .periods-most)) (h .side-is) same in
-    let p = both (isPrice (stepPrice part at)) (isQuantity (stepQuantity part at)) .0 t in
+    let p = both (isPrice (stepPrice part at)) (isQuantity (stepQuantity part at)) .0 (rw (l, k) at t) in
     let q = both _ _ .0 (p .1) in
     let r = both _ _ .0 (p .0) in
     record {

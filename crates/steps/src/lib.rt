@@ -39,11 +39,11 @@ fn head_at(part: &[u8], at: usize) -> usize
 fn put(
     heads: &mut [usize],
     prices: &mut [i64],
-    places: &mut [usize],
+    places: &mut [u8],
     slot: usize,
     head: usize,
     price: i64,
-    place: usize,
+    place: u8,
 )
     requires { ⌜ (slot < length (now heads)) × ((slot < length (now prices)) × (slot < length (now places))) ⌝ }
     ensures { λ r. ⌜ now (heads .exit) ≡ set (now (heads .entry)) slot head ⌝ }
@@ -55,6 +55,14 @@ fn put(
     places[slot] = place;
 }
 
+// A cell is below 200.
+fn small(cell: usize) -> u8
+    requires { ⌜ cell < 200 ⌝ }
+    ensures { λ r. ⌜ r ≡ cell ⌝ }
+{
+    cell as u8
+}
+
 // The heads of a zone and period: of a sell step, and of a buy step.
 fn know(
     clearing: &[u8],
@@ -63,14 +71,14 @@ fn know(
     period: usize,
     heads: &mut [usize],
     prices: &mut [i64],
-    places: &mut [usize],
+    places: &mut [u8],
 )
     requires { ⌜ (OfClearing (now clearing) counts) × ((zone < counts .zones) × (period < counts .periods)) ⌝ }
     requires { ⌜ Known counts (now clearing) (now heads) (now prices) (now places) ⌝ }
     ensures { λ r. ⌜ Known counts (now (clearing .entry)) (now (heads .exit)) (now (prices .exit)) (now (places .exit)) ⌝ }
 {
     let price = book::price_of(clearing, counts, zone, period);
-    let place = cells::cell(counts.periods, zone, period);
+    let place = small(cells::cell(counts.periods, zone, period));
     let slot = period + 32 * zone;
     let head = zone + 256 * period;
     put(heads, prices, places, slot, head, price, place);
@@ -91,7 +99,7 @@ fn know_zone(
     zone: usize,
     heads: &mut [usize],
     prices: &mut [i64],
-    places: &mut [usize],
+    places: &mut [u8],
 )
     requires { ⌜ (OfClearing (now clearing) counts) × (zone < counts .zones) ⌝ }
     requires { ⌜ Known counts (now clearing) (now heads) (now prices) (now places) ⌝ }
@@ -107,7 +115,7 @@ fn know_all(
     counts: Counts,
     heads: &mut [usize],
     prices: &mut [i64],
-    places: &mut [usize],
+    places: &mut [u8],
 )
     requires { ⌜ OfClearing (now clearing) counts ⌝ }
     requires { ⌜ Known counts (now clearing) (now heads) (now prices) (now places) ⌝ }
@@ -118,7 +126,7 @@ fn know_all(
     }
 }
 
-// What the tables say.
+// What the tables say: whether a row's head stands in its slot, so that it is one that the day allows; and its price.
 fn holds(heads: &[usize], slot: usize, head: usize) -> bool
     requires { ⌜ slot < length (now heads) ⌝ }
     ensures { λ r. ⌜ r ≡ eqb (getD (now (heads .entry)) slot 0) head ⌝ }
@@ -131,13 +139,6 @@ fn price_in(prices: &[i64], slot: usize) -> i64
     ensures { λ r. ⌜ r ≡ getD (now (prices .entry)) slot (pos 0) ⌝ }
 {
     prices[slot]
-}
-
-fn place_in(places: &[usize], slot: usize) -> usize
-    requires { ⌜ slot < length (now places) ⌝ }
-    ensures { λ r. ⌜ r ≡ getD (now (places .entry)) slot 0 ⌝ }
-{
-    places[slot]
 }
 
 // ---- one step
@@ -186,7 +187,8 @@ fn count_sold(
     true
 }
 
-// A buy step: its surplus to the buyers', its volume to the traded volume and away from its zone and period. One that would pay more than its limit counts nothing.
+// A buy step: its surplus to the buyers', its volume to the traded volume and away from its zone and period. One that would pay more than
+// its limit counts nothing.
 fn count_bought(
     limit: i64,
     price: i64,
@@ -223,7 +225,8 @@ fn count_at(
     sums: &mut [i64],
 ) -> bool
     requires { ⌜ (Near limit price quantity) × (Room cell (now nets) (now sums)) ⌝ }
-    ensures { λ r. ⌜ (r ≡ true → CountedAt slot limit price quantity volume cell (now (nets .entry)) (now (nets .exit)) (now (sums .entry)) (now (sums .exit))) ⌝ }
+    ensures { λ r. ⌜ (r ≡ true → CountedAt slot limit price quantity volume cell
+        (now (nets .entry)) (now (nets .exit)) (now (sums .entry)) (now (sums .exit))) ⌝ }
 {
     if slot < 256 {
         return count_sold(limit, price, quantity, volume, cell, nets, sums);
@@ -238,13 +241,14 @@ fn count_step(
     row: usize,
     heads: &[usize],
     prices: &[i64],
-    places: &[usize],
+    places: &[u8],
     nets: &mut [i64],
     sums: &mut [i64],
 ) -> bool
     requires { ⌜ (Ready counts (now day) (now clearing) full (now nets) (now sums)) × (row < counts .steps) ⌝ }
     requires { ⌜ Known counts (now clearing) (now heads) (now prices) (now places) ⌝ }
-    ensures { λ r. ⌜ (r ≡ true → StepCounted counts (now (day .entry)) (now (clearing .entry)) row (now (nets .entry)) (now (nets .exit)) (now (sums .entry)) (now (sums .exit))) ⌝ }
+    ensures { λ r. ⌜ (r ≡ true → StepCounted counts (now (day .entry)) (now (clearing .entry)) row
+        (now (nets .entry)) (now (nets .exit)) (now (sums .entry)) (now (sums .exit))) ⌝ }
 {
     let part = parts::steps_part(day, counts);
     let at = 2 + 12 * row;
@@ -259,7 +263,7 @@ fn count_step(
         return false;
     }
     let price = price_in(prices, slot);
-    let cell = place_in(places, slot);
+    let cell = wire::u8_at(places, slot);
     let volume = book::volume_of(clearing, counts, row);
     count_at(slot, limit, price, quantity, volume, cell, nets, sums)
 }
@@ -272,13 +276,14 @@ fn count_all(
     counts: Counts,
     heads: &[usize],
     prices: &[i64],
-    places: &[usize],
+    places: &[u8],
     nets: &mut [i64],
     sums: &mut [i64],
 ) -> bool
     requires { ⌜ Ready counts (now day) (now clearing) most (now nets) (now sums) ⌝ }
     requires { ⌜ Known counts (now clearing) (now heads) (now prices) (now places) ⌝ }
-    ensures { λ r. ⌜ (r ≡ true → StepsCounted counts (now (day .entry)) (now (clearing .entry)) (counts .steps) (now (nets .entry)) (now (nets .exit)) (now (sums .entry)) (now (sums .exit))) ⌝ }
+    ensures { λ r. ⌜ (r ≡ true → StepsCounted counts (now (day .entry)) (now (clearing .entry)) (counts .steps)
+        (now (nets .entry)) (now (nets .exit)) (now (sums .entry)) (now (sums .exit))) ⌝ }
 {
     for i in 0..counts.steps {
         if !count_step(day, clearing, counts, i, heads, prices, places, nets, sums) {
@@ -296,12 +301,13 @@ pub fn count_steps(
     sums: &mut [i64],
 ) -> bool
     requires { ⌜ Ready counts (now day) (now clearing) most (now nets) (now sums) ⌝ }
-    ensures { λ r. ⌜ (r ≡ true → StepsCounted counts (now (day .entry)) (now (clearing .entry)) (counts .steps) (now (nets .entry)) (now (nets .exit)) (now (sums .entry)) (now (sums .exit))) ⌝ }
+    ensures { λ r. ⌜ (r ≡ true → StepsCounted counts (now (day .entry)) (now (clearing .entry)) (counts .steps)
+        (now (nets .entry)) (now (nets .exit)) (now (sums .entry)) (now (sums .exit))) ⌝ }
 {
-    // No four bytes are this number, so a slot that is not filled is never hit.
+    // No four bytes make this number. Where it stands, the other two tables are not read: any number may stand there.
     let mut heads = [4294967296usize; 512];
     let mut prices = [4294967296i64; 512];
-    let mut places = [4294967296usize; 512];
+    let mut places = [0u8; 512];
     know_all(clearing, counts, &mut heads, &mut prices, &mut places);
     count_all(day, clearing, counts, &heads, &prices, &places, nets, sums)
 }

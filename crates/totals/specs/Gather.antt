@@ -229,7 +229,8 @@ module _ {day clearing : List ℕ} {c : Counts} (o : OfFiles day clearing c) whe
         arith,
         abs-+ (sum l (lineLeaves c day clearing zone period)) (sum n (leaves c day clearing l zone period)),
         flows-size _ _ _ p (ranged o) l zone period (below-most i) k,
-        sum-within n mostPeriods (leaves c day clearing l zone period) 2000000 (le-trans j (p .periods-most)) (λ h m. leaves-size l zone period h i (le-trans m j)),
+        sum-within n mostPeriods (leaves c day clearing l zone period) 2000000 (le-trans j (p .periods-most))
+            (λ h m. leaves-size l zone period h i (le-trans m j)),
       )
 
   pub from-next : {l h : ℕ} → l < c .lines → h < c .periods →

@@ -279,7 +279,8 @@ fn add_trade(trade: Trade, periods: usize, nets: &mut [i64])
 fn gather_steps(day: &[u8], clearing: &[u8], counts: Counts, nets: &mut [i64])
     requires { ⌜ OfFiles (now day) (now clearing) counts ⌝ }
     requires { ⌜ Tabled (counts .zones) (counts .periods) (λ _ _. pos 0) (now nets) ⌝ }
-    ensures { λ r. ⌜ Tabled (counts .zones) (counts .periods) (afterSteps counts (now (day .entry)) (now (clearing .entry)) (counts .steps)) (now (nets .exit)) ⌝ }
+    ensures { λ r. ⌜ Tabled (counts .zones) (counts .periods) (afterSteps counts (now (day .entry)) (now (clearing .entry)) (counts .steps))
+        (now (nets .exit)) ⌝ }
 {
     for row in 0..counts.steps {
         add_trade(step_trade(day, clearing, counts, row), counts.periods, nets);
@@ -303,7 +304,8 @@ fn gather_block(day: &[u8], clearing: &[u8], counts: Counts, row: usize, nets: &
 fn gather_blocks(day: &[u8], clearing: &[u8], counts: Counts, nets: &mut [i64])
     requires { ⌜ OfFiles (now day) (now clearing) counts ⌝ }
     requires { ⌜ Tabled (counts .zones) (counts .periods) (afterSteps counts (now day) (now clearing) (counts .steps)) (now nets) ⌝ }
-    ensures { λ r. ⌜ Tabled (counts .zones) (counts .periods) (afterBlocks counts (now (day .entry)) (now (clearing .entry)) (counts .blocks)) (now (nets .exit)) ⌝ }
+    ensures { λ r. ⌜ Tabled (counts .zones) (counts .periods) (afterBlocks counts (now (day .entry)) (now (clearing .entry)) (counts .blocks))
+        (now (nets .exit)) ⌝ }
 {
     for row in 0..counts.blocks {
         gather_block(day, clearing, counts, row, nets);

@@ -94,10 +94,12 @@ module _ {day clearing : List ℕ} {c : Counts} (o : OfFiles day clearing c) whe
   }
 
   -- where the rules hold, the room decides
-  pub past-all : Lawful (book.dayOf c day) (book.pricesOf c clearing) (book.choiceOf c clearing) → (room : ℕ) → fromRoom day clearing room ≡ verdict day clearing room
+  pub past-all : Lawful (book.dayOf c day) (book.pricesOf c clearing) (book.choiceOf c clearing) → (room : ℕ) →
+      fromRoom day clearing room ≡ verdict day clearing room
   past-all lawful room =
       past-the-rules day clearing room
-      (rules-same (sym (means (rules.stages c day clearing) Clean .1 (lawful-is (book.dayOf c day) (book.pricesOf c clearing) (book.choiceOf c clearing) .1 lawful))))
+      (rules-same (sym (means (rules.stages c day clearing) Clean .1
+      (lawful-is (book.dayOf c day) (book.pricesOf c clearing) (book.choiceOf c clearing) .1 lawful))))
       ∙ past-the-files day clearing room (sym (means (fileStages day clearing) Clean .1 (files-clean day clearing .1 (o .good-day, own-clearing))))
 
   -- the room, and what is left in it

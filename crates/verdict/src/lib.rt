@@ -30,7 +30,8 @@ fn from_room(
     room: &mut [u8],
 ) -> Outcome
     requires { ⌜ Released (now day) (now clearing) counts ⌝ }
-    requires { ⌜ (totals ≡ sums.totals counts (now day) (now clearing)) × (Tabled (counts .zones) (counts .periods) (sums.netPosition counts (now day) (now clearing)) (now nets)) ⌝ }
+    requires { ⌜ totals ≡ sums.totals counts (now day) (now clearing) ⌝ }
+    requires { ⌜ Tabled (counts .zones) (counts .periods) (sums.netPosition counts (now day) (now clearing)) (now nets) ⌝ }
     ensures said { λ r. ⌜ r ≡ fromRoom (now (day .entry)) (now (clearing .entry)) (length (now (room .entry))) ⌝ }
     ensures left { λ r. ⌜ now (room .exit) ≡ leaves (now (day .entry)) (now (clearing .entry)) r (now (room .entry)) ⌝ }
 {

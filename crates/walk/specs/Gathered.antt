@@ -86,11 +86,13 @@ module _ {day clearing : List ℕ} {c : Counts} (a : AllSure day clearing c) whe
       (λ i b.
       let at = cell-of (c .zones) least (rw (le-antisymm (f .prices-head .at-most) (f .prices-head .at-least)) at b) in
       price-row 0 0 clearing i .1
-      (subst (λ (n : ℕ). IsPrice (i32At clearing (rowStart kinds.Prices 0 n))) (at .1 .1) (a .prices (i / c .periods) (i % c .periods) (at .0) (at .1 .0) .price-is)))
+      (subst (λ (n : ℕ). IsPrice (i32At clearing (rowStart kinds.Prices 0 n))) (at .1 .1)
+      (a .prices (i / c .periods) (i % c .periods) (at .0) (at .1 .0) .price-is)))
       (λ i b.
       let at = cell-of (c .lines) least (rw (le-antisymm (f .flows-head .at-most) (f .flows-head .at-least)) at b) in
       flow-row 0 0 (flowsPart clearing) i .1
-      (subst (λ (n : ℕ). IsFlow (i32At (flowsPart clearing) (rowStart kinds.Flows 0 n))) (at .1 .1) (a .lines (i / c .periods) (at .0) .flow-is (i % c .periods) (at .1 .0))))
+      (subst (λ (n : ℕ). IsFlow (i32At (flowsPart clearing) (rowStart kinds.Flows 0 n))) (at .1 .1)
+      (a .lines (i / c .periods) (at .0) .flow-is (i % c .periods) (at .1 .0))))
       (λ i b.
       let l = rw (le-antisymm (f .volumes-head .at-most) (f .volumes-head .at-least)) at b in
       volume-row 0 0 (volumesPart clearing) i .1
@@ -177,7 +179,8 @@ module _ (c : Counts) (day clearing : List ℕ) where
     unfolding at market.rent market.shortfall
     sums-gathered e = record {
       buyers-are = one-measure e Buyers buyers (omega arith) (λ _. refl) (λ _. simp linear (omega arith)) (λ _. simp linear (omega arith)) ∙ buyers-is d p ch;
-      sellers-are = one-measure e Sellers sellers (omega arith) (λ _. refl) (λ _. simp linear (omega arith)) (λ _. simp linear (omega arith)) ∙ sellers-is d p ch;
+      sellers-are =
+          one-measure e Sellers sellers (omega arith) (λ _. refl) (λ _. simp linear (omega arith)) (λ _. simp linear (omega arith)) ∙ sellers-is d p ch;
       rent-is = one-sum e rent (omega arith) refl (sum-zero (c .steps) _ (λ _ _. refl)) (sum-zero (c .blocks) _ (λ _ _. refl)) ∙ simp linear (omega arith);
       traded-are = one-measure e Traded traded (omega arith) (λ _. refl) (λ _. simp linear (omega arith)) (λ _. simp linear (omega arith)) ∙ traded-is d p ch;
       shortfall-is =
@@ -273,7 +276,14 @@ module _ {day clearing : List ℕ} {c : Counts} (o : OfFiles day clearing c) {su
   pub totals-made : Balanced (dayOf c day) (choiceOf c clearing) → totalsIn sums ≡ totals (dayOf c day) (pricesOf c clearing) (choiceOf c clearing)
   unfolding totals
   totals-made b =
-      rw (s .buyers-are, s .sellers-are, s .rent-is, s .traded-are, s .shortfall-is, adds-up (dayOf c day) (pricesOf c clearing) (placed o) (choiceOf c clearing) b)
+      rw (
+        s .buyers-are,
+        s .sellers-are,
+        s .rent-is,
+        s .traded-are,
+        s .shortfall-is,
+        adds-up (dayOf c day) (pricesOf c clearing) (placed o) (choiceOf c clearing) b,
+      )
 
   -- and fit
   traders-size : (m : Measure) → natAbs (market.accepted (dayOf c day) (choiceOf c clearing) (priced m (pricesOf c clearing))) ≤ 9000000000000000
@@ -281,7 +291,8 @@ module _ {day clearing : List ℕ} {c : Counts} (o : OfFiles day clearing c) {su
       rw (accepted-is (dayOf c day) (pricesOf c clearing) (choiceOf c clearing) m)
       (omega (
         arith,
-        abs-+ (sum (c .steps) (stepMeasured (dayOf c day) (pricesOf c clearing) (choiceOf c clearing) m)) (sum (c .blocks) (λ k. blockMeasured (dayOf c day) (pricesOf c clearing) m k (ratioOf clearing k))),
+        abs-+ (sum (c .steps) (stepMeasured (dayOf c day) (pricesOf c clearing) (choiceOf c clearing) m))
+            (sum (c .blocks) (λ k. blockMeasured (dayOf c day) (pricesOf c clearing) m k (ratioOf clearing k))),
         steps-size _ _ _ (placed o) (ranged o) m (c .steps) (le-refl (c .steps)),
         blocks-size _ _ _ (placed o) (ranged o) m (c .blocks) (le-refl (c .blocks)),
       ))

@@ -2,7 +2,6 @@
 use Prim.Native.Nat.{ℕ, _+_, _*_, _<_}
 use native.Mathlib.Omega.{arith}
 use mathlib.Core.Path.{_≡_, refl, sym, ap, subst, _∙_}
-use mathlib.Core.Bool.{true, _&&_}
 use mathlib.Core.List.{List}
 use lib.IntN.{ℤ, pos}
 use lib.ListN.{length, getD}
@@ -14,7 +13,6 @@ use borrow.Author.Tests.{not-false}
 use Rattle.whole.specs.Size.{same}
 use Rattle.stages.specs.First.{apart, eqb-is}
 use Rattle.wire.specs.Bytes.{u32At}
-use Rattle.limits.specs.Limits.{isPrice, isQuantity}
 use Rattle.rows.specs.Rows.{stepPrice, stepQuantity}
 use Rattle.market.specs.declared.Step.{Step}
 use Rattle.day.specs.Day.{stepsPart}
@@ -72,8 +70,8 @@ returns-2 c e = apart e refl
 price-in-requires : tie.Need-price-in-requires
 price-in-requires c κs = search needs
 
-place-in-requires : tie.Need-place-in-requires
-place-in-requires c κs = search needs
+u8-at-requires : tie.Need-u8-at-requires
+u8-at-requires c κs = search needs
 
 volume-of-requires : tie.Need-volume-of-requires
 volume-of-requires c κs = search needs
@@ -82,6 +80,21 @@ volume-of-requires c κs = search needs
 module _ (c : tie.After-volume-of) where
   abbrev s : tie.Start
   s = c .before .before .before .before .before .before .before .before .before .before .before .before .before .before .before .before
+
+  abbrev part-at : tie.After-steps-part
+  part-at = c .before .before .before .before .before .before .before .before .before .before .before
+
+  abbrev head-read : tie.After-head-at
+  head-read = c .before .before .before .before .before .before .before .before .before .before
+
+  abbrev slot-read : tie.After-slot-of
+  slot-read = c .before .before .before .before .before .before .before .before .before
+
+  abbrev limit-read : tie.After-i32-at
+  limit-read = c .before .before .before .before .before .before
+
+  abbrev quantity-read : tie.After-u32-at
+  quantity-read = c .before .before .before .before .before
 
   abbrev day : List ℕ
   day = now (s .args .day)
@@ -95,45 +108,47 @@ module _ (c : tie.After-volume-of) where
   abbrev price : ℤ
   price = pricesOf (s .args .counts) (now (s .args .clearing)) (step .zone) (step .period)
 
-  part-is : now (c .before .before .before .before .before .before .before .before .before .before .before .steps-part .result) ≡ part
-  part-is = c .before .before .before .before .before .before .before .before .before .before .before .steps-part .ensures .0
+  part-is : now (part-at .steps-part .result) ≡ part
+  part-is = part-at .steps-part .ensures .0
 
   abbrev slot : ℕ
-  slot = c .before .before .before .before .before .before .before .before .before .slot-of .result
+  slot = slot-read .slot-of .result
 
-  head-is : getD (now (s .args .heads)) slot 0 ≡ c .before .before .before .before .before .before .before .before .before .before .head-at .result
+  head-is : getD (now (s .args .heads)) slot 0 ≡ head-read .head-at .result
   head-is = eqb-is _ _ .0 (sym (c .before .before .before .before .before .before .before .before .holds .ensures) ∙ not-false _ (c .before .before .before .before .before .before .before .if1 .left))
 
-  numbers : (isPrice (stepPrice part (2 + 12 * s .args .row)) && isQuantity (stepQuantity part (2 + 12 * s .args .row))) ≡ true
-  numbers =
-      rw (same (c .before .before .before .before .before .before .i32-at .result) (c .before .before .before .before .before .before .i32-at .ok), c .before .before .before .before .before .before .i32-at .ensures, c .before .before .before .before .before .u32-at .ensures, part-is) at
-      (sym (c .before .before .before .before .numbers-ok .ensures) ∙ not-false _ (c .before .before .before .if2 .left))
+  limit-at : toZ w64 (ofZ w64 (limit-read .i32-at .result)) ≡ stepPrice part (2 + 12 * s .args .row)
+  limit-at = same (limit-read .i32-at .result) (limit-read .i32-at .ok) ∙ limit-read .i32-at .ensures
+      ∙ ap (λ (p : List ℕ). stepPrice p (2 + 12 * s .args .row)) part-is
+
+  quantity-at : quantity-read .u32-at .result ≡ stepQuantity part (2 + 12 * s .args .row)
+  quantity-at = quantity-read .u32-at .ensures ∙ ap (λ (p : List ℕ). stepQuantity p (2 + 12 * s .args .row)) part-is
 
   here : Placed (s .args .counts) day (now (s .args .clearing)) (s .args .row) slot
       (getD (now (s .args .prices)) slot (pos 0)) (getD (now (s .args .places)) slot 0)
   here =
-      let f = c .before .before .before .before .before .before .before .before .before .before .head-at .ensures in
+      let f = head-read .head-at .ensures in
       placed (s .args .counts) day (now (s .args .clearing)) (s .args .row) (s .pre .0 .0 .framed .of-clearing .limits) (subst (λ (p : List ℕ). FourBytes p (2 + 12 * s .args .row)) part-is (f .1))
       (head-is ∙ f .0 ∙ ap (λ (p : List ℕ). u32At p (2 + 12 * s .args .row)) part-is)
-      (s .pre .1 .each slot (c .before .before .before .before .before .before .before .before .before .slot-of .ensures) (omega (arith, head-is, f .0, f .1 .first, f .1 .second, f .1 .third, f .1 .fourth)))
-      numbers
+      (s .pre .1 .each slot (slot-read .slot-of .ensures) (omega (arith, head-is, f .0, f .1 .first, f .1 .second, f .1 .third, f .1 .fourth)))
+      limit-at quantity-at (sym (c .before .before .before .before .numbers-ok .ensures) ∙ not-false _ (c .before .before .before .if2 .left))
 
   lies-so : Lies (s .args .counts) day (s .args .row)
   lies-so = lies (s .args .counts) day (s .args .row) (here .row)
 
-  limit-is : toZ w64 (ofZ w64 (c .before .before .before .before .before .before .i32-at .result)) ≡ step .limit
+  limit-is : toZ w64 (ofZ w64 (limit-read .i32-at .result)) ≡ step .limit
   unfolding stepOf
-  limit-is = same (c .before .before .before .before .before .before .i32-at .result) (c .before .before .before .before .before .before .i32-at .ok) ∙ c .before .before .before .before .before .before .i32-at .ensures ∙ ap (λ (p : List ℕ). stepPrice p (2 + 12 * s .args .row)) part-is
+  limit-is = limit-at
 
-  quantity-is : c .before .before .before .before .before .u32-at .result ≡ step .quantity
+  quantity-is : quantity-read .u32-at .result ≡ step .quantity
   unfolding stepOf
-  quantity-is = c .before .before .before .before .before .u32-at .ensures ∙ ap (λ (p : List ℕ). stepQuantity p (2 + 12 * s .args .row)) part-is
+  quantity-is = quantity-at
 
   price-is : toZ w64 (ofZ w64 (c .before .before .price-in .result)) ≡ price
   price-is = same (c .before .before .price-in .result) (c .before .before .price-in .ok) ∙ c .before .before .price-in .ensures ∙ here .price-is
 
-  cell-is : c .before .place-in .result ≡ step .zone * s .args .counts .periods + step .period
-  cell-is = c .before .place-in .ensures ∙ here .place-is
+  cell-is : c .before .u8-at .result ≡ step .zone * s .args .counts .periods + step .period
+  cell-is = c .before .u8-at .ensures .0 ∙ here .place-is
 
   inside : step .zone * s .args .counts .periods + step .period < length (now (s .args .nets))
   inside = rw (s .pre .0 .0 .nets-long) (price-cell (s .pre .0 .0 .framed .of-clearing) (lies-so .zone, lies-so .period))
@@ -182,7 +197,7 @@ count-step-spec =
     numbers-ok-requires
     returns-2
     price-in-requires
-    place-in-requires
+    u8-at-requires
     volume-of-requires
     count-at-requires
     same-length

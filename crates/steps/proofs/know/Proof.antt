@@ -19,6 +19,9 @@ price-of-requires c κs = search needs
 cell-requires : tie.Need-cell-requires
 cell-requires c κs = let s = c .before .before .before .before in price-cell (s .pre .0 .0) (s .pre .0 .1)
 
+small-requires : tie.Need-small-requires
+small-requires c κs = let s = c .before .before .before .before .before in rw (c .cell .ensures) (price-cell (s .pre .0 .0) (s .pre .0 .1))
+
 mul-slot : tie.Need-mul-slot
 mul-slot c = search needs
 
@@ -36,17 +39,17 @@ price-is : (c : tie.After-price-of) → let a = c .before .before .before .befor
 price-is c = same (c .price-of .result) (c .price-of .ok) ∙ c .price-of .ensures
 
 -- after the first of the two
-sells-known : (c : tie.After-put) → let a = c .before .before .before .before .before .before .before .before .before .args in
+sells-known : (c : tie.After-put) → let a = c .before .before .before .before .before .before .before .before .before .before .args in
     Known (a .counts) (now (a .clearing)) (c .put .last .0) (c .put .last .1 .0) (c .put .last .1 .1 .0)
 sells-known c =
-    let s = c .before .before .before .before .before .before .before .before .before in
+    let s = c .before .before .before .before .before .before .before .before .before .before in
     let e = c .put .ensures in
     let limits = s .pre .0 .0 .limits in
     let z = s .pre .0 .1 .0 in
     let h = s .pre .0 .1 .1 in
     let l : s .args .period + 32 * s .args .zone < 256 = omega (arith, z, h, limits .zones-most, limits .periods-most) in
     rw (e .0, e .1 .0, e .1 .1)
-    (more-known (s .pre .1) (omega (arith, l)) (sell-head z h l refl (price-is (c .before .before .before .before .before)) (c .before .before .before .before .cell .ensures)))
+    (more-known (s .pre .1) (omega (arith, l)) (sell-head z h l refl (price-is (c .before .before .before .before .before .before)) (c .before .before .before .before .small .ensures ∙ c .before .before .before .before .before .cell .ensures)))
 
 put-requires : tie.Need-put-requires
 put-requires c κs = search needs
@@ -71,15 +74,15 @@ same-length-3 c = search needs
 
 returns : tie.Need-returns
 returns c =
-    let s = c .before .before .before .before .before .before .before .before .before .before .before .before .before .before .before .before .before .before .before .before .before .before .before in
-    let k = c .before .before .before .before .before .before .before .before .before .before .before .before .before .before .before .before .before .before .cell .ensures in
+    let s = c .before .before .before .before .before .before .before .before .before .before .before .before .before .before .before .before .before .before .before .before .before .before .before .before in
+    let k = c .before .before .before .before .before .before .before .before .before .before .before .before .before .before .before .before .before .before .small .ensures ∙ c .before .before .before .before .before .before .before .before .before .before .before .before .before .before .before .before .before .before .before .cell .ensures in
     let e = c .before .before .before .before .before .put2 .ensures in
     let limits = s .pre .0 .0 .limits in
     let z = s .pre .0 .1 .0 in
     let h = s .pre .0 .1 .1 in
     rw (e .0, e .1 .0, e .1 .1)
     (more-known (sells-known (c .before .before .before .before .before .before .before .before .before .before .before .before .before .before)) (omega (arith, z, h, limits .zones-most, limits .periods-most))
-    (buy-head z h (omega arith) refl (price-is (c .before .before .before .before .before .before .before .before .before .before .before .before .before .before .before .before .before .before .before)) k))
+    (buy-head z h (omega arith) refl (price-is (c .before .before .before .before .before .before .before .before .before .before .before .before .before .before .before .before .before .before .before .before)) k))
 
 pub know-spec : {M : Type 1} → statement M
 know-spec =
@@ -87,6 +90,7 @@ know-spec =
     (tie.spec
     price-of-requires
     cell-requires
+    small-requires
     mul-slot
     add-slot
     mul-head

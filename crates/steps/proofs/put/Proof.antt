@@ -18,9 +18,6 @@ mul-price c = search needs
 slice-set-from-price : tie.Need-slice-set-from-price
 slice-set-from-price c = search needs
 
-mul-places : tie.Need-mul-places
-mul-places c = search needs
-
 slice-write-places : tie.Need-slice-write-places
 slice-write-places c = search needs
 
@@ -44,7 +41,6 @@ put-spec =
     slice-write-heads
     mul-price
     slice-set-from-price
-    mul-places
     slice-write-places
     same-length
     same-length-2
