@@ -1,15 +1,21 @@
--- The day, the prices and the choice of two files that read without fault lie within their limits. Assumes nothing.
+-- The day, the prices and the choice of two files that read without fault lie within their limits, and so does what is counted of them.
+-- Assumes nothing.
 use Prim.Native.Nat.{ℕ, _≤_}
+use native.Mathlib.Nat.{le-refl}
 use native.Mathlib.Omega.{arith}
 use mathlib.Core.Path.{subst}
 use mathlib.Core.List.{List}
 use lib.IntN.{ℤ, pos, natAbs}
-use Rattle.whole.specs.Whole.{_≼_}
+use Rattle.whole.specs.Whole.{_≼_, sum}
 use Rattle.whole.specs.Ring.{linear}
-use Rattle.whole.specs.Size.{abs-le}
+use Rattle.whole.specs.Size.{abs-le, abs-+}
 use Rattle.limits.specs.Limits.{mostPrice, mostFlow}
 use Rattle.rows.specs.Sentences.{IsPrice, IsFlow}
+use Rattle.market.specs.Market.{accepted}
 use Rattle.market.specs.Range.{Placed, Ranged}
+use Rattle.market.specs.Measures.{priced, stepMeasured, blockMeasured}
+use Rattle.market.specs.MeasureLaws.{accepted-is, steps-size, blocks-size}
+use Rattle.market.specs.declared.Measure.{Measure}
 use Rattle.day.specs.declared.Counts.{Counts}
 use Rattle.day.specs.Day.{counts}
 use Rattle.day.specs.Good.{GoodDay, in-limits, good-line, good-step, good-block}
@@ -65,3 +71,19 @@ ranged o =
       volume = λ i b. good-volume g b;
       ratio = λ k b. good-ratio g b;
     }
+
+-- ---- what is counted of all that is accepted
+
+pub accepted-size : {day clearing : List ℕ} {c : Counts} → OfFiles day clearing c → (m : Measure) →
+    natAbs (accepted (dayOf c day) (choiceOf c clearing) (priced m (pricesOf c clearing))) ≤ 9000000000000000
+accepted-size {day} {clearing} {c} o m =
+    let d = dayOf c day in
+    let p = pricesOf c clearing in
+    let ch = choiceOf c clearing in
+    rw (accepted-is d p ch m)
+    (omega (
+      arith,
+      abs-+ (sum (c .steps) (stepMeasured d p ch m)) (sum (c .blocks) (λ k. blockMeasured d p m k (ratioOf clearing k))),
+      steps-size d p ch (placed o) (ranged o) m (c .steps) (le-refl (c .steps)),
+      blocks-size d p ch (placed o) (ranged o) m (c .blocks) (le-refl (c .blocks)),
+    ))

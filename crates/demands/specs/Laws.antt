@@ -6,13 +6,12 @@ use native.Mathlib.Omega.{arith}
 use mathlib.Core.Path.{_≡_, refl, sym, ap, subst, _∙_}
 use mathlib.Core.Logic.{_↔_}
 use mathlib.Core.List.{List, [], _∷_, _++_}
-use lib.IntN.{ℤ, _+ℤ_}
+use lib.IntN.{ℤ}
 use lib.ListN.{getD, length, drop}
 use mir.Syntax.{w32, w64}
 use mir.Val.{SFits}
 use borrow.Author.Tests.{leb-true, le-leb}
-use Rattle.whole.specs.Whole.{sum}
-use Rattle.whole.specs.Size.{abs-+, fits-i64}
+use Rattle.whole.specs.Size.{fits-i64}
 use Rattle.stages.specs.Stage.{Means, means, clean-++, firstFault, answer-fault, answer-good, answer-bad}
 use Rattle.stages.specs.declared.Place.{Place}
 use Rattle.stages.specs.declared.Fault.{Fault}
@@ -23,9 +22,9 @@ use Rattle.market.specs.Market.{Day, Prices, Choice, accepted, netPosition, ord
 use Rattle.market.specs.Market.{shortfall, totals}
 use Rattle.market.specs.Rules.{Lawful, ruleStages}
 use Rattle.market.specs.RuleLaws.{lawful-is}
-use Rattle.market.specs.Measures.{priced, stepMeasured, blockMeasured}
-use Rattle.market.specs.MeasureLaws.{accepted-is, value-is, buyers-is, sellers-is, traded-is}
-use Rattle.market.specs.MeasureLaws.{steps-size, blocks-size, rents-size, missed-size}
+use Rattle.market.specs.Measures.{priced}
+use Rattle.market.specs.MeasureLaws.{value-is, buyers-is, sellers-is, traded-is}
+use Rattle.market.specs.MeasureLaws.{rents-size, missed-size}
 use Rattle.market.specs.declared.Totals.{Totals}
 use Rattle.market.specs.declared.Measure.{Measure}
 use Rattle.market.specs.declared.Measure.the-variants.{Value, Buyers, Sellers, Traded}
@@ -34,7 +33,7 @@ use Rattle.day.specs.Good.{prices-most}
 use Rattle.clearing.specs.Clearing.{fileStages}
 use Rattle.clearing.specs.Good.{files-clean}
 use Rattle.book.specs.Of.{OfFiles, cell-below}
-use Rattle.book.specs.Ranges.{placed, ranged}
+use Rattle.book.specs.Ranges.{accepted-size, placed, ranged}
 use Rattle.statement.specs.Laws.{statement-length, stored-is, stays-behind, value-read, buyers-read, sellers-read, rent-read, traded-read}
 use Rattle.statement.specs.Laws.{six-read, shortfall-read, count-read, net-read}
 use Rattle.statement.specs.Of.{netCount, netRow, cell-row, flow-row-fits, flow-row-is}
@@ -114,12 +113,7 @@ module _ {day clearing : List ℕ} (o : OfFiles day clearing (counts day)) where
 
   -- a total over all that is accepted fits an i64
   accepted-fits : (m : Measure) {x : ℤ} → accepted d c (priced m p) ≡ x → SFits w64 x
-  accepted-fits m is =
-      let steps = sum (d .steps) (stepMeasured d p c m) in
-      let blocks = sum (d .blocks) (λ k. blockMeasured d p m k (c .ratio k)) in
-      let s = steps-size d p c (placed o) (ranged o) m (d .steps) (le-refl (d .steps)) in
-      let b = blocks-size d p c (placed o) (ranged o) m (d .blocks) (le-refl (d .blocks)) in
-      subst (SFits w64) (sym (accepted-is d p c m) ∙ is) (fits-i64 (steps +ℤ blocks) (omega (arith, abs-+ steps blocks, s, b)))
+  accepted-fits m is = subst (SFits w64) is (fits-i64 (accepted d c (priced m p)) (omega (arith, accepted-size o m)))
 
   rent-fits : SFits w64 (rent d p c)
   unfolding rent

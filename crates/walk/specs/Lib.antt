@@ -1,4 +1,6 @@
 -- What is meant: two files in which nothing is broken, with their totals and net positions.
 pub mod Walked
--- What is gathered is what they come to.
+-- Rows that are sure make two files that read without fault and keep the rules.
+pub mod AllSure
+-- What is gathered of them is what they come to.
 pub mod Gathered

@@ -7,7 +7,8 @@ use borrow.Author.Needs.{needs}
 use borrow.Author.Tests.{not-false}
 use denote.Ref.{now}
 use Rattle.lines.specs.Sure.{SurePrice}
-use Rattle.walk.specs.Gathered.{RowsCounted, AllSure, bounds-good, prices-near, files-are, traders-fit, value-fits, all-walked}
+use Rattle.walk.specs.AllSure.{AllSure, bounds-good, prices-near, files-are}
+use Rattle.walk.specs.Gathered.{RowsCounted, traders-fit, value-fits, all-walked}
 use Rattle.walk.proofs.from_frame.Statement.{statement}
 use Rattle.walk.proofs.from_frame.Tie as tie
 
