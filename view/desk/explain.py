@@ -1,0 +1,287 @@
+"""The checker's verdict in the rule paper's words, with the numbers that decide. Each number of the paper has its function here."""
+
+from math import gcd
+
+from .account import Account, Table
+from .files import first_misfit
+from .layout import BYTES, CLEARING, DAY, ENERGY, MONEY, PLAIN, PRICE, SHARE, SIDE, TOTALS, VOLUME, asked, statement_length
+from .market import BUY, SELL, WHOLE
+from .numbers import said, with_unit
+from .paper import NUMBERS, place_words
+
+VERB = {SELL: "sells", BUY: "buys"}
+
+
+def account_of(pair):
+    """The account of a pair's verdict."""
+    verdict = pair.verdict
+    number = NUMBERS[verdict.number]
+    if verdict.accepted:
+        account = Account("Accepted.", verdict.line, number.says)
+        of_accepted(account, pair)
+        return account
+    place = place_words(verdict, pair.market)
+    account = Account(f"Refused: {verdict.number}, {number.name}{', at ' + place if place else ''}.", verdict.line, number.says)
+    EXPLAINED[verdict.number](account, pair)
+    return account
+
+
+# ---- the reading of a file
+
+def faulty_reading(pair):
+    return pair.day if pair.clearing is None else pair.clearing
+
+
+def of_end(account, pair):
+    """1 and 5: bytes that a section needs, against those that the file has."""
+    reading = faulty_reading(pair)
+    part = reading.parts[-1]
+    account.title = f"Section {part.section.number}, {part.section.name}, of {reading.file.name}"
+    account.fact("starts at", part.offset, note="where the section before it ended" if part.offset else "")
+    needed = part.offset + 2
+    if part.count is None:
+        account.fact("end of its count", needed, note="a count has 2 bytes")
+    else:
+        width = part.section.width(reading.periods)
+        needed += width * part.count
+        account.fact("count", part.count)
+        account.fact("bytes of a row", width)
+        account.fact("end of its rows", needed, note="start, 2, and count times the bytes of a row")
+    account.fact("length of the file", reading.file.length)
+    account.fact("missing bytes", needed - reading.file.length)
+
+
+def of_count(account, pair):
+    """2 and 6: a count against its limits, or against the one that the day file asks."""
+    reading = faulty_reading(pair)
+    part = reading.parts[-1]
+    section = part.section
+    account.title = f"Section {section.number}, {section.name}, of {reading.file.name}"
+    account.fact("starts at", part.offset)
+    account.fact("count", part.count)
+    if section.count.of:
+        for name in section.count.of:
+            account.fact(f"{name} of the day", reading.counts[name])
+        account.fact("asked", asked(section, reading.counts), note="number of " + " times number of ".join(section.count.of))
+    else:
+        account.fact("least", section.count.least)
+        account.fact("most", section.count.most)
+
+
+def of_field(account, pair):
+    """3 and 7: a field against its range, or against what its row or the row before has."""
+    reading = faulty_reading(pair)
+    part = reading.parts[-1]
+    _, number, position = reading.fault.place
+    row = part.rows[number]
+    before = part.rows[number - 1].values if number else None
+    one = part.section.fields_of_row(reading.periods)[position]
+    title = part.section.titles(reading.periods)[position]
+    earlier, value = row.values[:position], row.values[position]
+    account.title = f"Section {part.section.number}, {part.section.name}, row {number}, field {position}, {title}, of {reading.file.name}"
+    account.fact("stands at", row.offset_of(position, reading.periods), note=f"{one.width} bytes")
+    account.fact("found", value, one.unit)
+    broken = first_misfit(part.section, position, value, earlier, before, reading.counts)
+    if isinstance(broken, tuple):
+        account.fact("least", broken[0], one.unit)
+        account.fact("most", broken[1], one.unit, f"the {one.of} are numbered from 0" if one.of else "")
+    elif broken is not None:
+        for name, other in broken.compared(earlier, before):
+            account.fact(name, other, one.unit)
+        account.so.append(f"It has to be {broken.words}.")
+
+
+def of_trailing(account, pair):
+    """4 and 8: where the last section ends, against the file's length."""
+    reading = faulty_reading(pair)
+    account.title = f"The end of {reading.file.name}"
+    account.fact("end of the last section", reading.end)
+    account.fact("length of the file", reading.file.length)
+    account.fact("bytes behind it", reading.file.length - reading.end)
+
+
+# ---- zones, lines, steps
+
+def zone_words(market, zone):
+    return f"zone {zone} (code {market.codes[zone]})"
+
+
+def of_price(account, pair):
+    market, (zone, period, _) = pair.market, pair.verdict.place
+    account.title = f"In {zone_words(market, zone)}, period {period}"
+    account.fact("price", market.price[zone][period], PRICE)
+    account.fact("floor", market.floor[period], PRICE)
+    account.fact("ceiling", market.ceiling[period], PRICE)
+
+
+def line_facts(account, market, line, period):
+    account.title = f"On line {line.row} from {zone_words(market, line.start)} to {zone_words(market, line.end)}, period {period}"
+    account.fact("flow", line.flow[period], VOLUME, "above zero from \"from\" to \"to\"")
+    account.fact("forward capacity", line.forward[period], VOLUME)
+    account.fact("back capacity", line.back[period], VOLUME)
+
+
+def of_capacity(account, pair):
+    market, (row, period, _) = pair.market, pair.verdict.place
+    line = market.lines[row]
+    line_facts(account, market, line, period)
+    account.fact("most", line.forward[period], VOLUME)
+    account.fact("least", -line.back[period], VOLUME)
+    flow = line.flow[period]
+    account.fact("beyond by", flow - line.forward[period] if flow > line.forward[period] else -line.back[period] - flow, VOLUME)
+
+
+def step_facts(account, market, step):
+    account.title = f"Step {step.row} {VERB[step.side]} in {zone_words(market, step.zone)}, period {step.period}"
+    account.fact("side", step.side, SIDE)
+    account.fact("accepted", step.accepted, VOLUME)
+    account.fact("quantity", step.quantity, VOLUME)
+
+
+def of_quantity(account, pair):
+    step = pair.market.steps[pair.verdict.place[0]]
+    step_facts(account, pair.market, step)
+    account.fact("beyond by", step.accepted - step.quantity, VOLUME)
+
+
+def of_balance(account, pair):
+    market, (zone, period, _) = pair.market, pair.verdict.place
+    account.title = f"In {zone_words(market, zone)}, period {period}"
+    sums = {}
+    for side, verb in ((SELL, "sold"), (BUY, "bought")):
+        steps, blocks = market.by_steps(side, zone, period), market.by_blocks(side, zone, period)
+        account.fact(f"{verb} by steps", steps, VOLUME)
+        account.fact(f"{verb} by blocks", blocks, VOLUME)
+        sums[side] = steps + blocks
+    leaves = enters = 0
+    for line in market.lines:
+        flow = line.flow[period]
+        if line.start == zone:
+            leaves += flow
+            account.fact(f"leaves by line {line.row}", flow, VOLUME, f"to {zone_words(market, line.end)}")
+        elif line.end == zone:
+            enters += flow
+            account.fact(f"enters by line {line.row}", flow, VOLUME, f"from {zone_words(market, line.start)}")
+    account.fact("sold", sums[SELL], VOLUME)
+    account.fact("bought", sums[BUY], VOLUME)
+    account.fact("leaves", leaves, VOLUME)
+    account.fact("enters", enters, VOLUME)
+    net = sums[SELL] - sums[BUY]
+    account.fact("net position", net, VOLUME, "sold less bought")
+    account.fact("flows", leaves - enters, VOLUME, "leaving less entering")
+    account.fact("difference", net - leaves + enters, VOLUME, "net position less flows")
+
+
+def of_step(account, pair):
+    market = pair.market
+    step = market.steps[pair.verdict.place[0]]
+    price = market.price[step.zone][step.period]
+    step_facts(account, market, step)
+    account.fact("limit", step.limit, PRICE)
+    account.fact("price", price, PRICE)
+    inside = step.limit < price if step.side == SELL else step.limit > price
+    account.fact("asked", step.quantity if inside else 0, VOLUME, "in the money, so in full" if inside else "out of the money, so nothing")
+
+
+def of_line(account, pair):
+    market, (row, period, _) = pair.market, pair.verdict.place
+    line = market.lines[row]
+    start, end = market.price[line.start][period], market.price[line.end][period]
+    line_facts(account, market, line, period)
+    account.fact("price at from", start, PRICE)
+    account.fact("price at to", end, PRICE)
+    dearer = end > start
+    account.fact("asked", line.forward[period] if dearer else -line.back[period], VOLUME,
+                 "\"to\" is dearer, so all that goes forward" if dearer else "\"to\" is cheaper, so all that goes back")
+
+
+# ---- blocks
+
+def block_facts(account, market, block):
+    account.title = f"Block {block.row} {VERB[block.side]} in {zone_words(market, block.zone)}"
+    account.fact("side", block.side, SIDE)
+    account.fact("ratio", block.ratio, SHARE)
+
+
+def of_least(account, pair):
+    block = pair.market.blocks[pair.verdict.place[0]]
+    block_facts(account, pair.market, block)
+    account.fact("least ratio in the file", block.least, SHARE, "0 stands for all" if block.least == 0 else "")
+    account.fact("least", block.least_allowed, SHARE)
+    account.fact("missing", block.least_allowed - block.ratio, SHARE)
+
+
+def of_whole(account, pair):
+    row, period, _ = pair.verdict.place
+    block = pair.market.blocks[row]
+    product = block.quantity[period] * block.ratio
+    block_facts(account, pair.market, block)
+    account.fact(f"quantity in period {period}", block.quantity[period], VOLUME)
+    account.fact("quantity times ratio", product)
+    account.fact("thousands in it", product // WHOLE)
+    account.fact("left over", product % WHOLE, note="0 where the volume is whole")
+    step = WHOLE // gcd(WHOLE, *block.quantity)
+    account.so.append(f"The ratios that make all its volumes whole are the multiples of {said(step, SHARE)}.")
+
+
+def of_block(account, pair):
+    market = pair.market
+    block = market.blocks[pair.verdict.place[0]]
+    block_facts(account, market, block)
+    account.fact("limit", block.limit, PRICE)
+    account.fact("whole quantity", sum(block.quantity), ENERGY)
+    account.fact("income", market.income(block), MONEY, "quantity times price over its periods")
+    account.fact("limit times quantity", market.at_limit(block), MONEY)
+    account.fact("missing", -market.gain(block), MONEY, "below what a sell block asks" if block.side == SELL else "above what a buy block pays")
+    table = Table("Period by period", [("period", PLAIN), ("quantity", VOLUME), ("price", PRICE), ("income", MONEY),
+                                       ("limit times quantity", MONEY)])
+    for period, quantity in enumerate(block.quantity):
+        if quantity:
+            price = market.price[block.zone][period]
+            table.rows.append([period, quantity, price, quantity * price, quantity * block.limit])
+    account.tables.append(table)
+
+
+# ---- the rest
+
+def of_room(account, pair):
+    needed = statement_length(pair.day.counts)
+    account.fact("room", pair.room, BYTES)
+    account.fact("statement", needed, BYTES, f"{len(TOTALS)} totals, and a net position for each zone and period")
+    account.fact("missing", needed - pair.room, BYTES)
+
+
+def of_accepted(account, pair):
+    market, totals = pair.market, pair.verdict.totals
+    account.title = "Totals"
+    for total in TOTALS:
+        account.fact(total.name, totals[total.name], total.unit)
+    for total in TOTALS:
+        account.so.append(f"{total.name.capitalize()}, {with_unit(totals[total.name], total.unit)}: {total.meaning}")
+    account.so.append("Buyers, sellers and rent add up to the order value.")
+    lost = sorted((block for block in market.blocks if market.shortfall(block)), key=lambda block: (-market.shortfall(block), block.row))
+    if lost:
+        table = Table("Blocks that make up the shortfall, the largest first", [
+            ("block", PLAIN), ("zone", PLAIN), ("code", PLAIN), ("side", SIDE), ("limit", PRICE), ("ratio", SHARE), ("left", ENERGY),
+            ("shortfall", MONEY)])
+        for block in lost:
+            left = sum(block.left(period) for period in range(market.periods))
+            table.rows.append([block.row, block.zone, market.codes[block.zone], block.side, block.limit, block.ratio, left,
+                               market.shortfall(block)])
+        account.tables.append(table)
+    account.so.append(f"The statement has {statement_length(pair.day.counts)} bytes; a shorter room gets 18.")
+
+
+EXPLAINED = {
+    DAY.ends: of_end, DAY.miscounts: of_count, DAY.misfits: of_field, DAY.trails: of_trailing,
+    CLEARING.ends: of_end, CLEARING.miscounts: of_count, CLEARING.misfits: of_field, CLEARING.trails: of_trailing,
+    11: of_price, 12: of_capacity, 13: of_quantity, 14: of_balance, 15: of_step, 16: of_line, 17: of_block, 18: of_room,
+    20: of_least, 21: of_whole,
+}
+
+
+def meaning(number):
+    """A number of the paper without any file: what it is called, what it says, and what its place names."""
+    one = NUMBERS[number]
+    place = ", ".join(one.place) or "none"
+    return [f"{number}: {one.name}.", one.says, f"Its place: {place}."]

@@ -1,0 +1,2 @@
+"""stub"""
+def write(pair, output): pass

@@ -1,0 +1,38 @@
+"""A day file and a clearing file with the checker's verdict on them, taken apart as far as they read."""
+
+from dataclasses import dataclass
+from typing import Optional
+
+from . import checker
+from .files import File, Reading, faulty, open_file, read
+from .layout import CLEARING, DAY
+from .market import Market
+
+
+@dataclass
+class Pair:
+    """`clearing` is None where the day file does not read; `market` is None where either does not."""
+    verdict: checker.Verdict
+    day: Reading
+    clearing: Optional[Reading]
+    market: Optional[Market]
+    room: Optional[int] = None
+
+
+def take_apart(day: File, clearing: File, verdict, room=None):
+    reading = read(DAY, day, None, verdict)
+    if faulty(DAY, verdict):
+        return Pair(verdict, reading, None, None, room)
+    chosen = read(CLEARING, clearing, reading.counts, verdict)
+    if faulty(CLEARING, verdict):
+        return Pair(verdict, reading, chosen, None, room)
+    return Pair(verdict, reading, chosen, Market(reading, chosen), room)
+
+
+def load(day_name, clearing_name, given=None, room=None):
+    day, clearing = open_file(day_name), open_file(clearing_name)
+    if room is None:
+        verdict = checker.judge(day.data, clearing.data, given)
+    else:
+        verdict = checker.judge_in_room(day.data, clearing.data, room, given)
+    return take_apart(day, clearing, verdict, room)
