@@ -35,7 +35,7 @@ class Table:
 
 @dataclass
 class Account:
-    """`head` says it in one line; then the paper's sentence, the facts, the tables, and what follows from them."""
+    """`head` says it in one line, `line` is the checker's own; then the paper's sentence, the facts, the tables, and what they come to."""
     head: str
     line: str
     says: str

@@ -1,6 +1,5 @@
 """Runs the checker. What it says is the verdict; nothing here or above adds one."""
 
-import os
 import shutil
 import struct
 import subprocess
@@ -13,6 +12,7 @@ from .files import Unable
 
 ROOT = Path(__file__).resolve().parents[2]
 PATIENCE = 60  # seconds
+MOST_LENGTH = 65_535  # of a file or a room in a record of the program `rooms`
 
 
 @dataclass(frozen=True)
@@ -32,10 +32,11 @@ class Verdict:
         return "verdict " + " ".join(map(str, (self.number,) + self.place))
 
 
-def program(name, given=None):
-    path = Path(given) if given else ROOT / "target" / "bin" / name
+def program(name, folder=None):
+    """The path of one of the repository's programs, or of one of that name in another folder."""
+    path = (Path(folder) if folder else ROOT / "target" / "bin") / name
     if not path.is_file():
-        raise Unable(f"{path}: no checker there; `rt check {name}` in the repository proves and builds it, which takes some minutes")
+        raise Unable(f"{path}: no such program; `rt check {name}` in the repository proves and builds it, which takes some minutes")
     return str(path.resolve())
 
 
@@ -76,20 +77,24 @@ def parse(lines, path="the checker"):
         raise Unable(f"{path}: prints {' / '.join(lines[:1]) or 'nothing'}, which is no verdict")
 
 
-def judge(day, clearing, given=None):
+def judge(day, clearing, folder=None):
     """The verdict of the program on two byte strings."""
-    path = program("ayinzhad", given)
+    path = program("ayinzhad", folder)
     return parse(run(path, {"day.bin": day, "clearing.bin": clearing}), path)
 
 
-def judge_in_room(day, clearing, room, given=None):
-    """The verdict of the checker with a room of so many bytes."""
-    path = program("rooms", given)
+def judge_in_room(day, clearing, room, folder=None):
+    """The verdict of the checker with a room of so many bytes. A file too long for a record is refused in any room."""
+    if not 0 <= room <= MOST_LENGTH:
+        raise Unable(f"room {room}: expected 0 to {MOST_LENGTH} bytes")
+    if max(len(day), len(clearing)) > MOST_LENGTH:
+        return judge(day, clearing, folder)
+    path = program("rooms", folder)
     record = struct.pack("<HHH", len(day), len(clearing), room) + day + clearing
     lines = run(path, {"pairs": record})
     return parse([line for line in lines if not line.startswith("room ")], path)
 
 
-def judge_day(day, given=None):
+def judge_day(day, folder=None):
     """The verdict on a day file by itself: that on the pair with an empty clearing file, which is looked at only when the day file reads."""
-    return judge(day, b"", given)
+    return judge(day, b"", folder)

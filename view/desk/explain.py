@@ -4,7 +4,7 @@ from math import gcd
 
 from .account import Account, Table
 from .files import first_misfit
-from .layout import BYTES, CLEARING, DAY, ENERGY, MONEY, PLAIN, PRICE, SHARE, SIDE, TOTALS, VOLUME, asked, statement_length
+from .layout import CLEARING, DAY, ENERGY, MONEY, PLAIN, PRICE, SHARE, SIDE, TOTALS, VOLUME, asked, statement_length
 from .market import BUY, SELL, WHOLE
 from .numbers import said, with_unit
 from .paper import NUMBERS, place_words
@@ -49,6 +49,7 @@ def of_end(account, pair):
         account.fact("end of its rows", needed, note="start, 2, and count times the bytes of a row")
     account.fact("length of the file", reading.file.length)
     account.fact("missing bytes", needed - reading.file.length)
+    account.so.append(f"The file ends inside the section's {'count' if part.count is None else 'rows'}.")
 
 
 def of_count(account, pair):
@@ -62,10 +63,12 @@ def of_count(account, pair):
     if section.count.of:
         for name in section.count.of:
             account.fact(f"{name} of the day", reading.counts[name])
-        account.fact("asked", asked(section, reading.counts), note="number of " + " times number of ".join(section.count.of))
+        account.fact("asked", asked(section, reading.counts), note=" times ".join(section.count.of))
+        account.so.append(f"By the day file there are {asked(section, reading.counts)} {section.name}, and not {part.count}.")
     else:
         account.fact("least", section.count.least)
         account.fact("most", section.count.most)
+        account.so.append(f"A {reading.kind.name} file has {section.count.least} to {section.count.most} {section.name}.")
 
 
 def of_field(account, pair):
@@ -85,6 +88,7 @@ def of_field(account, pair):
     if isinstance(broken, tuple):
         account.fact("least", broken[0], one.unit)
         account.fact("most", broken[1], one.unit, f"the {one.of} are numbered from 0" if one.of else "")
+        account.so.append(f"It lies {'below' if value < broken[0] else 'above'} its range.")
     elif broken is not None:
         for name, other in broken.compared(earlier, before):
             account.fact(name, other, one.unit)
@@ -98,6 +102,7 @@ def of_trailing(account, pair):
     account.fact("end of the last section", reading.end)
     account.fact("length of the file", reading.file.length)
     account.fact("bytes behind it", reading.file.length - reading.end)
+    account.so.append("A file ends where its last section does.")
 
 
 # ---- zones, lines, steps
@@ -109,9 +114,12 @@ def zone_words(market, zone):
 def of_price(account, pair):
     market, (zone, period, _) = pair.market, pair.verdict.place
     account.title = f"In {zone_words(market, zone)}, period {period}"
-    account.fact("price", market.price[zone][period], PRICE)
-    account.fact("floor", market.floor[period], PRICE)
-    account.fact("ceiling", market.ceiling[period], PRICE)
+    price, floor, ceiling = market.price[zone][period], market.floor[period], market.ceiling[period]
+    account.fact("price", price, PRICE)
+    account.fact("floor", floor, PRICE)
+    account.fact("ceiling", ceiling, PRICE)
+    account.so.append(f"The price is {with_unit(floor - price, PRICE)} below the floor." if price < floor
+                      else f"The price is {with_unit(price - ceiling, PRICE)} above the ceiling.")
 
 
 def line_facts(account, market, line, period):
@@ -125,10 +133,10 @@ def of_capacity(account, pair):
     market, (row, period, _) = pair.market, pair.verdict.place
     line = market.lines[row]
     line_facts(account, market, line, period)
-    account.fact("most", line.forward[period], VOLUME)
-    account.fact("least", -line.back[period], VOLUME)
-    flow = line.flow[period]
-    account.fact("beyond by", flow - line.forward[period] if flow > line.forward[period] else -line.back[period] - flow, VOLUME)
+    flow, forward, back = line.flow[period], line.forward[period], line.back[period]
+    beyond, way = (flow - forward, "forward") if flow > forward else (-back - flow, "back")
+    account.fact("beyond by", beyond, VOLUME)
+    account.so.append(f"{with_unit(abs(flow), VOLUME)} run {way}, which is {with_unit(beyond, VOLUME)} more than the {way} capacity.")
 
 
 def step_facts(account, market, step):
@@ -142,6 +150,7 @@ def of_quantity(account, pair):
     step = pair.market.steps[pair.verdict.place[0]]
     step_facts(account, pair.market, step)
     account.fact("beyond by", step.accepted - step.quantity, VOLUME)
+    account.so.append(f"{with_unit(step.accepted - step.quantity, VOLUME)} more are accepted than the order has.")
 
 
 def of_balance(account, pair):
@@ -169,7 +178,10 @@ def of_balance(account, pair):
     net = sums[SELL] - sums[BUY]
     account.fact("net position", net, VOLUME, "sold less bought")
     account.fact("flows", leaves - enters, VOLUME, "leaving less entering")
-    account.fact("difference", net - leaves + enters, VOLUME, "net position less flows")
+    difference = net - leaves + enters
+    account.fact("difference", difference, VOLUME, "net position less flows")
+    account.so.append(f"What is sold and what enters are {with_unit(abs(difference), VOLUME)} {'more' if difference > 0 else 'less'} than what is "
+                      "bought and what leaves.")
 
 
 def of_step(account, pair):
@@ -181,6 +193,9 @@ def of_step(account, pair):
     account.fact("price", price, PRICE)
     inside = step.limit < price if step.side == SELL else step.limit > price
     account.fact("asked", step.quantity if inside else 0, VOLUME, "in the money, so in full" if inside else "out of the money, so nothing")
+    account.so.append(f"The step {VERB[step.side]} at a limit {'below' if step.limit < price else 'above'} the price, so it is "
+                      + (f"in the money, and {with_unit(step.quantity - step.accepted, VOLUME)} of it are missing." if inside else
+                         f"out of the money, and {with_unit(step.accepted, VOLUME)} of it are accepted all the same."))
 
 
 def of_line(account, pair):
@@ -191,8 +206,11 @@ def of_line(account, pair):
     account.fact("price at from", start, PRICE)
     account.fact("price at to", end, PRICE)
     dearer = end > start
-    account.fact("asked", line.forward[period] if dearer else -line.back[period], VOLUME,
-                 "\"to\" is dearer, so all that goes forward" if dearer else "\"to\" is cheaper, so all that goes back")
+    due = line.forward[period] if dearer else -line.back[period]
+    account.fact("asked", due, VOLUME, "the forward capacity" if dearer else "minus the back capacity")
+    account.so.append(f"\"to\" is {with_unit(abs(end - start), PRICE)} {'dearer' if dearer else 'cheaper'} than \"from\", so the line has to be "
+                      f"full {'forward' if dearer else 'back'}, with a flow of {with_unit(due, VOLUME)}; it stands at "
+                      f"{with_unit(line.flow[period], VOLUME)}.")
 
 
 # ---- blocks
@@ -209,6 +227,7 @@ def of_least(account, pair):
     account.fact("least ratio in the file", block.least, SHARE, "0 stands for all" if block.least == 0 else "")
     account.fact("least", block.least_allowed, SHARE)
     account.fact("missing", block.least_allowed - block.ratio, SHARE)
+    account.so.append(f"The block may be rejected, or accepted from {said(block.least_allowed, SHARE)} on.")
 
 
 def of_whole(account, pair):
@@ -232,7 +251,10 @@ def of_block(account, pair):
     account.fact("whole quantity", sum(block.quantity), ENERGY)
     account.fact("income", market.income(block), MONEY, "quantity times price over its periods")
     account.fact("limit times quantity", market.at_limit(block), MONEY)
-    account.fact("missing", -market.gain(block), MONEY, "below what a sell block asks" if block.side == SELL else "above what a buy block pays")
+    missing = -market.gain(block)
+    account.fact("missing", missing, MONEY)
+    account.so.append(f"Over its periods the block {'gets' if block.side == SELL else 'pays'} {with_unit(missing, MONEY)} "
+                      f"{'less' if block.side == SELL else 'more'} than its limit allows, and it is accepted.")
     table = Table("Period by period", [("period", PLAIN), ("quantity", VOLUME), ("price", PRICE), ("income", MONEY),
                                        ("limit times quantity", MONEY)])
     for period, quantity in enumerate(block.quantity):
@@ -246,9 +268,10 @@ def of_block(account, pair):
 
 def of_room(account, pair):
     needed = statement_length(pair.day.counts)
-    account.fact("room", pair.room, BYTES)
-    account.fact("statement", needed, BYTES, f"{len(TOTALS)} totals, and a net position for each zone and period")
-    account.fact("missing", needed - pair.room, BYTES)
+    account.fact("bytes of the room", pair.room)
+    account.fact("bytes of the statement", needed, note=f"{len(TOTALS)} totals, and a net position for each zone and period")
+    account.fact("missing bytes", needed - pair.room)
+    account.so.append("Nothing is written; the same files are accepted with a longer room.")
 
 
 def of_accepted(account, pair):
@@ -257,7 +280,7 @@ def of_accepted(account, pair):
     for total in TOTALS:
         account.fact(total.name, totals[total.name], total.unit)
     for total in TOTALS:
-        account.so.append(f"{total.name.capitalize()}, {with_unit(totals[total.name], total.unit)}: {total.meaning}")
+        account.so.append(f"{total.name.capitalize()} {with_unit(totals[total.name], total.unit)}: {total.meaning}")
     account.so.append("Buyers, sellers and rent add up to the order value.")
     lost = sorted((block for block in market.blocks if market.shortfall(block)), key=lambda block: (-market.shortfall(block), block.row))
     if lost:

@@ -30,7 +30,6 @@ SIDE = Unit(words=("sell", "buy"), thing="a side")
 PRICE = Unit("€/MWh", 2, thing="a price")
 VOLUME = Unit("MW", 1, thing="a volume")
 SHARE = Unit("", 3, thing="a ratio")
-BYTES = Unit("bytes")
 MONEY = Unit("€", 3, thing="an amount")
 ENERGY = Unit("MWh", 1, thing="an amount of energy")
 assert MONEY.digits == PRICE.digits + VOLUME.digits  # periods last one hour
@@ -189,14 +188,14 @@ CLEARING = Kind("clearing", ends=5, miscounts=6, misfits=7, trails=8, sections=(
 ))
 
 TOTALS = (
-    Named("order value", MONEY, "What the accepted buyers would have paid at their limits, less what the accepted sellers asked at theirs."),
-    Named("buyers", MONEY, "Buyer surplus: what the buyers pay less than their limits."),
-    Named("sellers", MONEY, "Seller surplus: what the sellers get above their limits."),
-    Named("rent", MONEY, "What the lines earn: their flow times the price where it arrives less the price where it leaves."),
-    Named("traded", ENERGY, "All that is bought, over the periods of an hour each."),
-    Named("shortfall", MONEY, "An upper bound that belongs to these prices: no other choice for this day is worth more than the order value by "
-          "more than this. It is what is left unaccepted of the blocks below would have gained at these prices; other valid prices for the "
-          "same acceptances can give a smaller one. It is not lost welfare."),
+    Named("order value", MONEY, "what the accepted buys are worth at their limits, less what the accepted sells ask at theirs."),
+    Named("buyers", MONEY, "buyer surplus, what the buyers pay less than their limits."),
+    Named("sellers", MONEY, "seller surplus, what the sellers get above their limits."),
+    Named("rent", MONEY, "what the lines earn, flow times the price at \"to\" less the price at \"from\"."),
+    Named("traded", ENERGY, "all accepted buy volume, in periods of an hour each."),
+    Named("shortfall", MONEY, "an upper bound that belongs to these prices: no other choice for this day has an order value greater by more "
+          "than this. It is what the unaccepted rest of the blocks would have gained at these prices, block by block where that is above "
+          "zero. Other valid prices for the same acceptances can give a smaller one. It is not lost welfare."),
 )
 
 STATEMENT = Kind("statement", sections=(

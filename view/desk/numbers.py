@@ -18,7 +18,7 @@ def with_unit(raw, unit):
 
 
 def beside_raw(raw, unit):
-    """The raw number and what it stands for: 4500 = 45.00 €/MWh, 0 = sell, 60 = 60 bytes; a plain number alone."""
+    """The raw number and what it stands for: 4500 = 45.00 €/MWh, 0 = sell; a plain number alone."""
     text = with_unit(raw, unit)
     return text if text == str(raw) else f"{raw} = {text}"
 

@@ -29,10 +29,10 @@ def take_apart(day: File, clearing: File, verdict, room=None):
     return Pair(verdict, reading, chosen, Market(reading, chosen), room)
 
 
-def load(day_name, clearing_name, given=None, room=None):
+def load(day_name, clearing_name, programs=None, room=None):
     day, clearing = open_file(day_name), open_file(clearing_name)
     if room is None:
-        verdict = checker.judge(day.data, clearing.data, given)
+        verdict = checker.judge(day.data, clearing.data, programs)
     else:
-        verdict = checker.judge_in_room(day.data, clearing.data, room, given)
+        verdict = checker.judge_in_room(day.data, clearing.data, room, programs)
     return take_apart(day, clearing, verdict, room)

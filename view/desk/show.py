@@ -4,7 +4,7 @@ from .account import as_text
 from .checker import judge, judge_day
 from .explain import account_of
 from .files import Refused, Unable, faulty, open_file, read
-from .layout import CLEARING, DAY, KINDS, STATEMENT, key_of, keys_of, statement_length
+from .layout import CLEARING, DAY, STATEMENT, key_of, keys_of, statement_length
 from .numbers import beside_raw
 from .pair import Pair
 from .paper import NUMBERS, place_words
@@ -15,17 +15,17 @@ SOME_BYTES = 16  # of those that belong to no field
 
 # ---- which kind of file it is
 
-def taken_apart(name, day_name, asked_kind, program):
+def taken_apart(name, day_name, asked_kind, programs):
     """The file and the checker's verdict on it, None for a statement. Where no kind is asked for, a file that reads as a day (with a day: as
     its clearing) is one; else it is a statement if it has the form of one; else it is a faulty day (or clearing)."""
     file = open_file(name)
     if day_name is None:
         if asked_kind == CLEARING.name:
             raise Unable(f"{name}: a clearing file is read by its day's counts: add --day DAY")
-        kind, verdict, counts = DAY, judge_day(file.data, program), None
+        kind, verdict, counts = DAY, judge_day(file.data, programs), None
     else:
         day_file = open_file(day_name)
-        kind, verdict = CLEARING, judge(day_file.data, file.data, program)
+        kind, verdict = CLEARING, judge(day_file.data, file.data, programs)
         if faulty(DAY, verdict):
             raise Refused(f"{day_name}: the day file itself does not read, {verdict.line}; show it by itself")
         counts = read(DAY, day_file, None, verdict).counts
@@ -161,14 +161,14 @@ def lines_of_rest(reading):
 def head_of_file(reading, verdict):
     """What file it is, and whether it reads."""
     kind, file = reading.kind, reading.file
-    words = "without fault" if kind is not STATEMENT else "the form of one"
+    words = "reads without fault" if kind is not STATEMENT else "whole"
     if reading.flaw:
-        words = f"not whole: {reading.flaw}"
+        words = f"not whole, {reading.flaw}"
     if reading.fault is not None:
         words = f"{verdict.line}: {NUMBERS[verdict.number].name}"
         place = place_words(verdict)
         words += f", at {place}" if place else ""
-    lines = [f"{kind.name} file {file.name}, {file.length} bytes: {words}"]
+    lines = [f"{kind.name} {file.name}, {file.length} bytes: {words}"]
     if kind is CLEARING and reading.fault is None:
         lines.append(f"with its day: {verdict.line}")
     return lines
@@ -180,10 +180,10 @@ def lines_of(reading, verdict, section=None, row=None):
     parts = reading.parts
     if section is not None:
         if not 1 <= section <= len(reading.kind.sections):
-            raise Unable(f"section {section}: a {reading.kind.name} file has sections 1 to {len(reading.kind.sections)}")
+            raise Unable(f"section {section}: a {reading.kind.name} has sections 1 to {len(reading.kind.sections)}")
         parts = [part for part in reading.parts if part.section.number == section]
         if not parts:
-            raise Unable(f"section {section}: {reading.file.name} reads up to section {reading.parts[-1].section.number}, {verdict.line}")
+            raise Unable(f"section {section}: {reading.file.name} reads up to section {reading.parts[-1].section.number}; show all of it")
     if row is not None:
         if section is None:
             raise Unable("--row needs --section")
@@ -200,10 +200,7 @@ def lines_of(reading, verdict, section=None, row=None):
     return lines
 
 
-def show(name, day_name=None, kind=None, section=None, row=None, program=None):
+def show(name, day_name=None, kind=None, section=None, row=None, programs=None):
     """The lines to print, and whether the file reads."""
-    reading, verdict = taken_apart(name, day_name, kind, program)
+    reading, verdict = taken_apart(name, day_name, kind, programs)
     return lines_of(reading, verdict, section, row), reading.fault is None and reading.flaw is None
-
-
-__all__ = ["KINDS", "show"]

@@ -15,6 +15,7 @@ from .paper import NUMBERS
 
 NAME = "ayinzhad-view"
 ACCEPTED, REFUSED, COULD_NOT = 0, 1, 2
+NOT_FOUND = 127  # a shell's status for a command that is not there
 PLAINER = str.maketrans({"€": "EUR", "\u202f": " "})
 
 ABOUT = """Shows what stands in a day file and a clearing file, and says the checker's verdict in words. It never judges: the verdict is
@@ -37,12 +38,11 @@ class Parser(argparse.ArgumentParser):
 
 def parser():
     top = Parser(prog=NAME, description=ABOUT, formatter_class=argparse.RawDescriptionHelpFormatter)
-    top.add_argument("--checker", metavar="PROGRAM", help="the checker to run, in place of the repository's own")
+    top.add_argument("--programs", metavar="FOLDER", help="where the checker's programs are, in place of the repository's target/bin")
     words = top.add_subparsers(dest="word", metavar="WORD", parser_class=Parser)
 
     def word(name, about, example):
-        one = words.add_parser(name, help=about, description=about[0].upper() + about[1:] + ".", epilog=f"example: {NAME} {example}")
-        return one
+        return words.add_parser(name, help=about, description=about[0].upper() + about[1:] + ".", epilog=f"example: {NAME} {example}")
 
     one = word("show", "a day file, a clearing file (with --day) or a statement, as text", "show clearing.bin --day day.bin --section 3 --row 7")
     one.add_argument("file", metavar="FILE")
@@ -75,7 +75,7 @@ def parser():
 # ---- the words
 
 def do_show(args):
-    lines, good = show.show(args.file, args.day, args.kind, args.section, args.row, args.checker)
+    lines, good = show.show(args.file, args.day, args.kind, args.section, args.row, args.programs)
     say(lines)
     return ACCEPTED if good else REFUSED
 
@@ -88,13 +88,13 @@ def do_explain(args):
         return ACCEPTED
     if args.clearing is None:
         raise Unable("explain needs DAY and CLEARING, or --number N")
-    pair = load(args.day, args.clearing, args.checker, args.room)
+    pair = load(args.day, args.clearing, args.programs, args.room)
     say(as_text(explain.account_of(pair)))
     return status_of(pair)
 
 
 def do_page(args):
-    pair = load(args.day, args.clearing, args.checker)
+    pair = load(args.day, args.clearing, args.programs)
     page.write(pair, args.output)
     say([f"{pair.verdict.line}: {args.output} is written"])
     return status_of(pair)
@@ -106,7 +106,7 @@ def do_import(args):
 
 
 def do_export(args):
-    say(tables.export_folder(args.folder, args.output or args.folder, args.checker))
+    say(tables.export_folder(args.folder, args.output or args.folder, args.programs))
     return ACCEPTED
 
 
@@ -122,23 +122,29 @@ DO = {"show": do_show, "explain": do_explain, "page": do_page, "import": do_impo
 def sayable(text):
     """The text with plainer signs where the output cannot have the ones it has."""
     try:
-        text.encode(sys.stdout.encoding or "ascii")
+        text.encode(sys.stdout.encoding or "utf-8")
         return text
     except UnicodeEncodeError:
         return text.translate(PLAINER)
 
 
 def say(lines):
+    """Prints lines; through a pager where they are more than the terminal has."""
     text = sayable("\n".join(lines) + "\n")
-    if sys.stdout.isatty() and len(lines) >= shutil.get_terminal_size().lines:
-        command = os.environ.get("PAGER") or "less"
-        try:
-            subprocess.run(command, shell=True, input=text.encode(errors="backslashreplace"), check=False)
-            return
-        except OSError:
-            pass
+    if sys.stdout.isatty() and len(lines) >= shutil.get_terminal_size().lines and paged(text):
+        return
     sys.stdout.write(text)
     sys.stdout.flush()
+
+
+def paged(text):
+    """Whether a pager was found and has shown the text."""
+    pager = os.environ.get("PAGER") or next((name for name in ("less", "more") if shutil.which(name)), None)
+    if pager is None:
+        return False
+    settings = {"LESS": "FRX", "LESSCHARSET": "utf-8", **os.environ}
+    done = subprocess.run(pager, shell=True, input=text.encode(errors="backslashreplace"), env=settings, check=False)
+    return done.returncode != NOT_FOUND
 
 
 def main(words):
