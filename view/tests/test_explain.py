@@ -1,4 +1,5 @@
-"""On all stored pairs: what `explain` says is the checker's verdict, and the numbers that it prints break the rule that it names."""
+"""On all stored pairs: what `explain` says is the checker's verdict, the numbers that it prints break the rule that it names, and they are
+those of the files."""
 
 import contextlib
 import io
@@ -8,6 +9,7 @@ import unittest
 from pathlib import Path
 
 import stored
+from plain import Plain
 from spoken import Spoken
 
 from desk.words import main
@@ -166,11 +168,28 @@ class Explained(unittest.TestCase):
                 if number:
                     self.assertTrue(said.head.startswith(f"Refused: {number}, "))
                     self.assertTrue(BREAKS[number](said), said.facts)
-                    self.assertIn(" ".join(said.sentences.split())[-1], ".")
+                    self.assertTrue(said.sentences.endswith("."))
+                    self.of_the_files(said, day, clearing, report)
                 else:
                     self.accepted(said, report)
             met[number] = met.get(number, 0) + 1
         self.assertEqual(set(met), set(BREAKS) | {0})
+
+    def of_the_files(self, said, day, clearing, report):
+        """The numbers that decide are those that stand in the files at that place."""
+        number, *place = map(int, report[0].split()[1:])
+        if number > 8:
+            for name, value in Plain(day, clearing).of(number, place).items():
+                self.assertEqual(said.facts[name], value, name)
+        elif number in (3, 7):
+            file = day if number == 3 else clearing
+            raw = said.facts["found"] % 2**32
+            self.assertEqual(file[said.facts["stands at"]], raw % 256)
+        elif number in (2, 6):
+            file, start = day if number == 2 else clearing, said.facts["starts at"]
+            self.assertEqual(int.from_bytes(file[start:start + 2], "little"), said.facts["count"])
+        elif number in (1, 4, 5, 8):
+            self.assertEqual(said.facts["length of the file"], len(day if number < 5 else clearing))
 
     def accepted(self, said, report):
         """The totals are the checker's, they add up, and the blocks named make up the shortfall, the largest first."""
