@@ -187,7 +187,7 @@ def first_misfit(section, position, value, earlier, before, counts):
 
 @dataclass(frozen=True)
 class Place:
-    """Where a file goes: its path as given, the file that this stands for, and two names beside it, for the new file and for the old one."""
+    """Where a file goes: its path as given, the file that this stands for, and two names beside it, for the new file and the old one."""
     path: str
     file: str
     new: str

@@ -78,7 +78,7 @@ def import_folder(folder, output):
 
 
 def files_of(folder):
-    """The two files that the tables of a folder stand for, name and bytes. The first thing in a table that does not fit ends the reading."""
+    """The two files that the tables of a folder stand for, name and bytes. The first thing that does not fit ends the reading."""
     counts, files = {}, {}
     for kind in (DAY, CLEARING):
         data = b""

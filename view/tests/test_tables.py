@@ -135,7 +135,8 @@ BAD = [
     ("clearing-3-steps.csv", "50.5", "-0.1", f', line 2, column 2 (volume): expected {VOLUME}, found "-0.1"'),
     ("clearing-4-blocks.csv", "0.000", "1.001", f', line 2, column 2 (ratio): expected {RATIO}, found "1.001"'),
     # against the fields and the row before
-    ("day-1-periods.csv", "3000.00\n1", "-500.01\n1", ', line 2, column 3 (ceiling): expected it to be not below the floor, found "-500.01"'),
+    ("day-1-periods.csv", "3000.00\n1", "-500.01\n1",
+     ', line 2, column 3 (ceiling): expected it to be not below the floor, found "-500.01"'),
     ("day-2-zones.csv", "1,20", "1,10", ', line 3, column 2 (code): expected it to be above the code before it, found "10"'),
     ("day-3-lines.csv", "0,0,1", "0,1,1", ', line 2, column 3 (to): expected it to be another zone than from, found "1"'),
     ("day-5-blocks.csv", "30.0", "0.0",
@@ -311,7 +312,8 @@ class Import(InFolder):
                     cells[column] = "?"
                     lay(self.tables, {**SMALL, name: "\n".join(lines[:line] + [",".join(cells)] + lines[line + 1:])})
                     said = self.unable(tables.files_of, self.tables)
-                    self.assertTrue(said.startswith(f"{self.tables / name}, line {line + 1}, column {column + 1} ({title}): expected "), said)
+                    place = f"{self.tables / name}, line {line + 1}, column {column + 1} ({title})"
+                    self.assertTrue(said.startswith(f"{place}: expected "), said)
                     self.assertTrue(said.endswith(', found "?"'), said)
 
     def test_the_first_fault_is_named(self):
@@ -379,7 +381,8 @@ class Export(InFolder):
         for sample, name, line in (("field", "day.bin", "verdict 3 4 1 4"), ("old-clearing", "clearing.bin", "verdict 5 4 0 0")):
             with self.assertRaises(files.Refused) as caught:
                 tables.export_folder(ROOT / "samples" / sample, self.output)
-            self.assertEqual(str(caught.exception), f"{ROOT}/samples/{sample}/{name}: does not read, {line}; `ayinzhad-view explain` says why")
+            self.assertEqual(str(caught.exception),
+                             f"{ROOT}/samples/{sample}/{name}: does not read, {line}; `ayinzhad-view explain` says why")
             self.assertFalse(self.output.exists())
 
     def test_files_that_are_missing(self):
