@@ -1,9 +1,12 @@
 """Bytes read by the layout, up to the fault that the checker names, and written by it. Nothing is judged here."""
 
 import os
+import shutil
 import stat
-import tempfile
+from contextlib import suppress
 from dataclasses import dataclass, field
+from pathlib import Path
+from secrets import token_hex
 from struct import calcsize, pack, unpack_from
 from typing import Dict, List, Optional
 
@@ -182,54 +185,98 @@ def first_misfit(section, position, value, earlier, before, counts):
     return None
 
 
+@dataclass(frozen=True)
+class Place:
+    """Where a file goes: its path as given, the file that this stands for, and two names beside it, for the new file and the old one."""
+    path: str
+    file: str
+    new: str
+    old: str
+
+
+def place_of(path):
+    """The place that a path stands for; a link stands for what it points to."""
+    file = os.path.realpath(path)
+    if os.path.exists(file) and not os.path.isfile(file):
+        raise Unable(f"{path}: a folder or a device stands there; nothing is written")
+    new, old = (os.path.join(os.path.dirname(file), f".ayinzhad-{token_hex(8)}") for _ in range(2))
+    return Place(path, file, new, old)
+
+
 def put(contents):
-    """Writes all these files (path and bytes) or none: each is written beside its place first, and only then are all renamed. Where one of
-    them cannot be, those before it get back what they had."""
-    beside, kept = {}, {}
+    """Writes all these files (path and bytes) or none. Each is written beside its place first, and only then are all renamed. Where one of
+    them cannot be, or the command is stopped, those before it get back what they had. No place is empty meanwhile that was not before."""
+    places = [place_of(path) for path in contents]
+    if len({place.file for place in places}) < len(places):
+        raise Unable(f"{', '.join(contents)}: two of them are links to one file; nothing is written")
+    renamed = []
     try:
-        for path, data in contents.items():
-            beside[path] = write_beside(path, data)
-        for path in contents:
-            kept[path] = keep(path)
-            os.replace(beside[path], path)
-            del beside[path]
-    except OSError as error:
-        failed = path
-        for path, old in kept.items():
-            if path == failed:
-                continue
-            if old is None:
-                os.unlink(path)
-            else:
-                os.replace(old, path)
-        kept = {failed: kept.get(failed)}
-        raise Unable(f"{failed}: {error.strerror}; nothing is written")
-    finally:
-        for name in list(beside.values()) + [old for old in kept.values() if old is not None]:
-            os.unlink(name)
-
-
-def write_beside(path, data):
-    """A new file in the folder of that path, with these bytes and the mode that a new file has."""
-    handle, name = tempfile.mkstemp(prefix=".ayinzhad-", dir=os.path.dirname(path) or ".")
-    try:
-        with os.fdopen(handle, "wb") as target:
-            target.write(data)
-            target.flush()
-            os.fsync(target.fileno())
-        mask = os.umask(0)
-        os.umask(mask)
-        os.chmod(name, 0o666 & ~mask)
-    except OSError:
-        os.unlink(name)
+        for place, data in zip(places, contents.values()):
+            write_new(place.new, data)
+        for place in places:
+            keep(place)
+            renamed.append(place)
+            os.replace(place.new, place.file)
+    except BaseException as error:
+        for one in renamed:
+            put_back(one)
+        if isinstance(error, OSError):
+            raise Unable(f"{place.path}: {error.strerror}; nothing is written")
         raise
-    return name
+    finally:
+        for one in places:
+            remove(one.new)
+            remove(one.old)
 
 
-def keep(path):
-    """A second name for the file that is there, or None where there is none."""
-    if not os.path.lexists(path):
-        return None
-    name = tempfile.mktemp(prefix=".ayinzhad-", dir=os.path.dirname(path) or ".")
-    os.link(path, name, follow_symlinks=False)
-    return name
+def write_new(name, data):
+    with open(name, "xb") as target:
+        target.write(data)
+        target.flush()
+        os.fsync(target.fileno())
+
+
+def keep(place):
+    """A second name for the file that is there; a copy, where the file system has no second names."""
+    try:
+        os.link(place.file, place.old)
+    except FileNotFoundError:
+        pass
+    except OSError:
+        shutil.copy2(place.file, place.old)
+
+
+def put_back(place):
+    """What was there before, whether the new file has its place by now or not."""
+    if os.path.exists(place.old):
+        os.replace(place.old, place.file)
+    else:
+        remove(place.file)
+
+
+def remove(name):
+    if os.path.lexists(name):
+        os.unlink(name)
+
+
+def put_in(folder, contents):
+    """Writes all these files (name and bytes) in a folder, or none. A missing folder is made, and taken away again where they cannot be."""
+    made = []
+    try:
+        for one in missing_folders(folder):
+            os.mkdir(one)
+            made.append(one)
+        put({os.path.join(folder, name): data for name, data in contents.items()})
+    except BaseException as error:
+        for one in reversed(made):
+            with suppress(OSError):
+                os.rmdir(one)
+        if isinstance(error, OSError):
+            raise Unable(f"{folder}: {error.strerror}; nothing is written")
+        raise
+
+
+def missing_folders(folder):
+    """The folders on the way to this one, and itself, that are not there; the outermost first."""
+    way = [Path(folder), *Path(folder).parents]
+    return [one for one in reversed(way) if not one.exists()]

@@ -62,7 +62,7 @@ def parser():
     one.add_argument("clearing", metavar="CLEARING")
     one.add_argument("-o", dest="output", metavar="FILE.html", required=True)
 
-    one = word("import", "the tables of a folder as day.bin and clearing.bin", "import samples/tables -o /tmp/small")
+    one = word("import", "the tables of a folder as day.bin and clearing.bin", "import view/samples/small-day -o /tmp/small")
     one.add_argument("folder", metavar="FOLDER")
     one.add_argument("-o", dest="output", metavar="OUT", help="the folder to write to, in place of FOLDER")
 
