@@ -108,30 +108,28 @@ class Table:
     def columns(self):
         return columns_of(self.section, self.periods)
 
-    def wrong(self, line, expected, found, column=None):
+    def wrong(self, line, column, expected, found):
         """Why the table is not taken, in one line. Lines and columns are counted from 1 there; `column` from 0."""
-        place = f"{self.path}, line {line}"
-        if column is not None:
-            place += f", column {column + 1}"
-            place += f" ({self.columns[column]})" if column < len(self.columns) else ""
-        return Unable(f"{place}: expected {expected}, found {found}")
+        name = f" ({self.columns[column]})" if column < len(self.columns) else ""
+        return Unable(f"{self.path}, line {line}, column {column + 1}{name}: expected {expected}, found {found}")
 
 
 def rows_of(table):
     """The values of a table's rows."""
-    lines = lines_of(table.path)
+    lines = lines_of(table)
     check_names(table, cells_of(table, 1, lines[0]) if lines else [])
     least, most = limits_of(table)
     rows = []
     for number, line in enumerate(lines[1:], 2):
         cells = cells_of(table, number, line)
         if len(cells) != len(table.columns):
-            raise table.wrong(number, amount(len(table.columns), "column"), len(cells) or "an empty line")
+            first = min(len(cells), len(table.columns))
+            raise table.wrong(number, first, amount(len(table.columns), "column"), len(cells) or "an empty line")
         if len(rows) == most:
-            raise table.wrong(number, limit_words(table), len(lines) - 1)
+            raise table.wrong(number, 0, limit_words(table), len(lines) - 1)
         rows.append(values_of(table, number, cells, rows))
     if len(rows) < least:
-        raise table.wrong(len(lines) + 1, limit_words(table), len(rows))
+        raise table.wrong(len(lines) + 1, 0, limit_words(table), len(rows))
     return rows
 
 
@@ -139,7 +137,7 @@ def check_names(table, cells):
     for column, (name, cell) in enumerate(zip_longest(table.columns, cells)):
         if name != cell:
             expected = "no more columns" if name is None else quoted(name)
-            raise table.wrong(1, expected, "nothing" if cell is None else quoted(cell), column)
+            raise table.wrong(1, column, expected, "nothing" if cell is None else quoted(cell))
 
 
 def values_of(table, line, cells, rows):
@@ -148,7 +146,7 @@ def values_of(table, line, cells, rows):
     keys = key_of(section, len(rows), counts)
     for column, key in enumerate(keys):
         if cells[column] != str(key):
-            raise table.wrong(line, f"{key}, as the rows stand in their order", quoted(cells[column]), column)
+            raise table.wrong(line, column, f"{key}, as the rows stand in their order", quoted(cells[column]))
     values = []
     for position, one in enumerate(section.fields_of_row(table.periods)):
         column = len(keys) + position
@@ -158,7 +156,7 @@ def values_of(table, line, cells, rows):
         else:
             broken = first_misfit(section, position, value, values, rows[-1] if rows else None, counts)
         if broken is not None:
-            raise table.wrong(line, fit_words(one, broken), quoted(cells[column]), column)
+            raise table.wrong(line, column, fit_words(one, broken), quoted(cells[column]))
         values.append(value)
     return values
 
@@ -171,13 +169,14 @@ def limits_of(table):
 
 # ---- text
 
-def lines_of(path):
+def lines_of(table):
     """The lines of a table, whether they end as on Linux or on Windows, without a byte order mark."""
     try:
-        text = bytes_of(path).decode("utf-8-sig")
+        text = bytes_of(table.path).decode("utf-8-sig")
     except UnicodeDecodeError as error:
-        line = error.object.count(b"\n", 0, error.start) + 1
-        raise Unable(f"{path}, line {line}: expected text in UTF-8, found the byte {error.object[error.start]}")
+        before = error.object[:error.start]
+        line, column = before.count(b"\n") + 1, before[before.rfind(b"\n") + 1:].count(b",")
+        raise table.wrong(line, column, "text in UTF-8", f"the byte {error.object[error.start]}")
     lines = text.replace("\r\n", "\n").split("\n")
     return lines if lines[-1] else lines[:-1]
 
@@ -202,7 +201,8 @@ def cells_of(table, number, line):
             return next(csv.reader([line], strict=True))
     except csv.Error:
         pass
-    raise table.wrong(number, "cells with commas between them, quoted from end to end or not at all", quoted(line))
+    column = next(place for place, cell in enumerate(line.split(",")) if '"' in cell or "\r" in cell)
+    raise table.wrong(number, column, "cells with commas between them, quoted from end to end or not at all", quoted(line))
 
 
 def quoted(text):
