@@ -30,7 +30,10 @@ class Table:
     rows: List[List[int]] = field(default_factory=list)
 
     def cells(self):
-        return [[beside_raw(raw, unit) for raw, (_, unit) in zip(row, self.columns)] for row in self.rows]
+        """The cells as texts, the raw numbers of a column under one another."""
+        widths = [max(len(str(raw)) for raw in column) for column in zip(*self.rows)]
+        return [[" " * (width - len(str(raw))) + beside_raw(raw, unit) for raw, (_, unit), width in zip(row, self.columns, widths)]
+                for row in self.rows]
 
 
 @dataclass

@@ -3,6 +3,7 @@
 import os
 import pty
 import random
+import struct
 import subprocess
 import sys
 import tempfile
@@ -74,6 +75,8 @@ class Words(unittest.TestCase):
         """A statement is known by its form; a file that could be either is what the checker reads, or what --as says."""
         day, clearing = pair("accepted")
         statement = SAMPLES / "accepted" / "statement.bin"
+        said = [int(line.rsplit(" ", 1)[1]) for line in (SAMPLES / "accepted" / "verdict").read_text().splitlines()[1:]]
+        self.assertEqual(statement.read_bytes(), struct.pack("<H6qH2i", 6, *said[:6], 2, *said[6:]))
         self.assertIn(b"statement ", run("show", statement).stdout.splitlines()[0])
         self.assertIn(b"zone", run("show", statement, "--day", day).stdout)
         self.assertIn(b"day ", run("show", statement, "--as", "day").stdout.splitlines()[0])
@@ -128,7 +131,7 @@ class Words(unittest.TestCase):
         numbers = random.Random(5)
         sources = [path.read_bytes() for path in pair("accepted")]
         day, clearing = self.folder / "day.bin", self.folder / "clearing.bin"
-        for turn in range(60):
+        for turn in range(40):
             for path, source in zip((day, clearing), sources):
                 data = bytearray(source)
                 for _ in range(numbers.randrange(3)):
