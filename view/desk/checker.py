@@ -46,7 +46,8 @@ def run(path, files):
     try:
         for name, data in files.items():
             Path(folder, name).write_bytes(data)
-        done = subprocess.run([str(ROOT / "tools" / "run"), path], cwd=folder, stdin=subprocess.DEVNULL, capture_output=True, timeout=PATIENCE)
+        done = subprocess.run([str(ROOT / "tools" / "run"), path], cwd=folder, stdin=subprocess.DEVNULL, capture_output=True,
+                              timeout=PATIENCE)
     except OSError as error:
         raise Unable(f"{path}: {error.strerror}")
     except subprocess.TimeoutExpired:
@@ -96,5 +97,5 @@ def judge_in_room(day, clearing, room, folder=None):
 
 
 def judge_day(day, folder=None):
-    """The verdict on a day file by itself: that on the pair with an empty clearing file, which is looked at only when the day file reads."""
+    """The verdict on a day file by itself: with an empty clearing file, which is looked at only when the day file reads."""
     return judge(day, b"", folder)

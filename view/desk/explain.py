@@ -180,8 +180,8 @@ def of_balance(account, pair):
     account.fact("flows", leaves - enters, VOLUME, "leaving less entering")
     difference = net - leaves + enters
     account.fact("difference", difference, VOLUME, "net position less flows")
-    account.so.append(f"What is sold and what enters are {with_unit(abs(difference), VOLUME)} {'more' if difference > 0 else 'less'} than what is "
-                      "bought and what leaves.")
+    account.so.append(f"What is sold and what enters are {with_unit(abs(difference), VOLUME)} {'more' if difference > 0 else 'less'} "
+                      "than what is bought and what leaves.")
 
 
 def of_step(account, pair):
@@ -208,8 +208,8 @@ def of_line(account, pair):
     dearer = end > start
     due = line.forward[period] if dearer else -line.back[period]
     account.fact("asked", due, VOLUME, "the forward capacity" if dearer else "minus the back capacity")
-    account.so.append(f"\"to\" is {with_unit(abs(end - start), PRICE)} {'dearer' if dearer else 'cheaper'} than \"from\", so the line has to be "
-                      f"full {'forward' if dearer else 'back'}, with a flow of {with_unit(due, VOLUME)}; it stands at "
+    account.so.append(f"\"to\" is {with_unit(abs(end - start), PRICE)} {'dearer' if dearer else 'cheaper'} than \"from\", so the line has "
+                      f"to be full {'forward' if dearer else 'back'}, with a flow of {with_unit(due, VOLUME)}; it stands at "
                       f"{with_unit(line.flow[period], VOLUME)}.")
 
 

@@ -159,7 +159,8 @@ DAY = Kind("day", ends=1, miscounts=2, misfits=3, trails=4, sections=(
         Field("floor", **PRICES),
         Field("ceiling", **PRICES, rule=earlier_field("not below the floor", "floor", 0, lambda value, floor: value >= floor)))),
     Section(2, "zones", "zone", Count(1, 8), (
-        Field("code", "H", least=1, most=65_535, rule=row_before("above the code before it", "code before", lambda value, code: value > code)),)),
+        Field("code", "H", least=1, most=65_535,
+              rule=row_before("above the code before it", "code before", lambda value, code: value > code)),)),
     Section(3, "lines", "line", Count(0, 16), (
         Field("from", "B", of="zones"),
         Field("to", "B", of="zones", rule=earlier_field("another zone than from", "from", 0, lambda value, other: value != other))), each=(
@@ -193,13 +194,14 @@ TOTALS = (
     Named("sellers", MONEY, "seller surplus, what the sellers get above their limits."),
     Named("rent", MONEY, "what the lines earn, flow times the price at \"to\" less the price at \"from\"."),
     Named("traded", ENERGY, "all accepted buy volume, in periods of an hour each."),
-    Named("shortfall", MONEY, "an upper bound that belongs to these prices: no other choice for this day has an order value greater by more "
-          "than this. It is what the unaccepted rest of the blocks would have gained at these prices, block by block where that is above "
-          "zero. Other valid prices for the same acceptances can give a smaller one. It is not lost welfare."),
+    Named("shortfall", MONEY, "an upper bound that belongs to these prices: no other choice for this day has an order value greater by "
+          "more than this. It is what the unaccepted rest of the blocks would have gained at these prices, block by block where that is "
+          "above zero. Other valid prices for the same acceptances can give a smaller one. It is not lost welfare."),
 )
 
 STATEMENT = Kind("statement", sections=(
-    Section(1, "totals", "total", Count(len(TOTALS), len(TOTALS)), (Field("total", "q", MONEY, least=-2**63, most=2**63 - 1),), named=TOTALS),
+    Section(1, "totals", "total", Count(len(TOTALS), len(TOTALS)), named=TOTALS, fields=(
+        Field("total", "q", MONEY, least=-2**63, most=2**63 - 1),)),
     Section(2, "net positions", "net position", Count(of=("zones", "periods")), (
         Field("net position", "i", VOLUME, least=-2**31, most=2**31 - 1),)),
 ))

@@ -29,15 +29,16 @@ NUMBERS = {one.number: one for one in (
     Number(11, "the price rule", "Every price lies from floor to ceiling, both allowed.", ("zone", "period")),
     Number(12, "the capacity rule", "A flow is at most the forward capacity and at least minus the back capacity.", ("line", "period")),
     Number(13, "the quantity rule", "A step's accepted volume is at most its quantity.", ("step",)),
-    Number(20, "the least ratio", "A block's ratio is 0, or from its least ratio to 1,000; a least ratio of 0 stands for 1,000.", ("block",)),
+    Number(20, "the least ratio", "A block's ratio is 0, or from its least ratio to 1,000; a least ratio of 0 stands for 1,000.",
+           ("block",)),
     Number(21, "whole volumes", "What is accepted of a block in a period, quantity times ratio over 1,000, is a whole number.",
            ("block", "period")),
     Number(14, "the balance rule", "The net position, what is sold less what is bought, equals the flows leaving less the flows entering.",
            ("zone", "period")),
-    Number(15, "the step rule", "A sell step below its zone's price is accepted in full, above it not at all; a buy step above the price in "
-           "full, below it not at all. At the price any volume is allowed.", ("step",)),
-    Number(16, "the line rule", "Where \"to\" is dearer than \"from\" the flow equals the forward capacity, where it is cheaper minus the back "
-           "capacity; equal prices ask nothing.", ("line", "period")),
+    Number(15, "the step rule", "A sell step below its zone's price is accepted in full, above it not at all; a buy step above the price "
+           "in full, below it not at all. At the price any volume is allowed.", ("step",)),
+    Number(16, "the line rule", "Where \"to\" is dearer than \"from\" the flow equals the forward capacity, where it is cheaper minus the "
+           "back capacity; equal prices ask nothing.", ("line", "period")),
     Number(17, "the block rule", "An accepted sell block has quantity times price, over its periods, not below its limit times its whole "
            "quantity; a buy block not above.", ("block",)),
     Number(18, "the room is too short", "The room that is lent for the statement is at least as long as the statement."),

@@ -1,4 +1,4 @@
-"""A file as text: each section with its count, each row with its offset, its number and its fields. A file with a fault is shown up to it."""
+"""A file as text: each section with its count, each row with its offset, its number and its fields; up to the fault, if it has one."""
 
 from .account import as_text
 from .checker import judge, judge_day
@@ -16,8 +16,8 @@ SOME_BYTES = 16  # of those that belong to no field
 # ---- which kind of file it is
 
 def taken_apart(name, day_name, asked_kind, programs):
-    """The file and the checker's verdict on it, None for a statement. Where no kind is asked for, a file that reads as a day (with a day: as
-    its clearing) is one; else it is a statement if it has the form of one; else it is a faulty day (or clearing)."""
+    """The file and the checker's verdict on it, None for a statement. Where no kind is asked for, a file that reads as a day (with a day:
+    as its clearing) is one; else it is a statement if it has the form of one; else it is a faulty day (or clearing)."""
     file = open_file(name)
     if day_name is None:
         if asked_kind == CLEARING.name:

@@ -44,7 +44,8 @@ def parser():
     def word(name, about, example):
         return words.add_parser(name, help=about, description=about[0].upper() + about[1:] + ".", epilog=f"example: {NAME} {example}")
 
-    one = word("show", "a day file, a clearing file (with --day) or a statement, as text", "show clearing.bin --day day.bin --section 3 --row 7")
+    one = word("show", "a day file, a clearing file (with --day) or a statement, as text",
+               "show clearing.bin --day day.bin --section 3 --row 7")
     one.add_argument("file", metavar="FILE")
     one.add_argument("--day", metavar="DAY", help="the day file of the clearing or statement")
     one.add_argument("--as", dest="kind", choices=sorted(KINDS), help="the kind of FILE, where it can be taken for another")

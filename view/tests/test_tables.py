@@ -146,7 +146,8 @@ BAD = [
     ("day-1-periods.csv", "1,-500.00,3000.00\n", "".join(f"{row},0.00,1.00\n" for row in range(1, 27)),
      ", line 27, column 1 (period): expected 1 to 25 rows, found 27"),
     ("day-2-zones.csv", "0,10\n1,20\n", "", ", line 2, column 1 (zone): expected 1 to 8 rows, found 0"),
-    ("day-2-zones.csv", "1,20\n", "".join(f"{row},{row + 20}\n" for row in range(1, 9)), ", line 10, column 1 (zone): expected 1 to 8 rows, found 9"),
+    ("day-2-zones.csv", "1,20\n", "".join(f"{row},{row + 20}\n" for row in range(1, 9)),
+     ", line 10, column 1 (zone): expected 1 to 8 rows, found 9"),
     ("day-3-lines.csv", "0,0,1,50.0,20.0,60.0,30.0\n", "".join(f"{row},0,1,0.0,0.0,0.0,0.0\n" for row in range(17)),
      ", line 18, column 1 (line): expected 0 to 16 rows, found 17"),
     ("day-4-steps.csv", "1,1,1,buy,0,90.00,70.0\n", "".join(f"{row},1,1,buy,0,0.00,0.1\n" for row in range(1, 2_001)),
@@ -154,7 +155,8 @@ BAD = [
     ("day-5-blocks.csv", "0,1,sell,0.250,45.00,30.0,0.0\n", "".join(f"{row},1,sell,0.000,0.00,1.0,0.0\n" for row in range(101)),
      ", line 102, column 1 (block): expected 0 to 100 rows, found 101"),
     ("clearing-1-prices.csv", "1,1,-0.01\n", "", ", line 5, column 1 (zone): expected 4 rows, the day's zones times periods, found 3"),
-    ("clearing-1-prices.csv", "1,1,-0.01\n", "1,1,-0.01\n2,0,0.00\n", ", line 6, column 1 (zone): expected 4 rows, the day's zones times periods, found 5"),
+    ("clearing-1-prices.csv", "1,1,-0.01\n", "1,1,-0.01\n2,0,0.00\n",
+     ", line 6, column 1 (zone): expected 4 rows, the day's zones times periods, found 5"),
     ("clearing-2-flows.csv", "0,1,-30.0\n", "", ", line 3, column 1 (line): expected 2 rows, the day's lines times periods, found 1"),
     ("clearing-3-steps.csv", "0,50.5\n1,0.0\n", "", ", line 2, column 1 (step): expected 2 rows, the day's steps, found 0"),
     ("clearing-4-blocks.csv", "0,0.000\n", "0,0.000\n1,0.000\n", ", line 3, column 1 (block): expected 1 row, the day's blocks, found 2"),
@@ -358,8 +360,10 @@ class Import(InFolder):
             (lambda: (path.unlink(), os.mkfifo(path)), ": a folder or a device, not a file"),
             (lambda: path.write_bytes(b"0" * (tables.MOST_BYTES + 1)), f": more than {tables.MOST_BYTES} bytes, which no table needs"),
             (lambda: os.truncate(path, 1 << 40), f": more than {tables.MOST_BYTES} bytes, which no table needs"),
-            (lambda: path.write_bytes(b"\xef\xbb\xbfline\n0,\xff"), ", line 2, column 2 (from): expected text in UTF-8, found the byte 255"),
-            (lambda: path.write_bytes("line,from".encode("utf-16")), ", line 1, column 1 (line): expected text in UTF-8, found the byte 255"),
+            (lambda: path.write_bytes(b"\xef\xbb\xbfline\n0,\xff"),
+             ", line 2, column 2 (from): expected text in UTF-8, found the byte 255"),
+            (lambda: path.write_bytes("line,from".encode("utf-16")),
+             ", line 1, column 1 (line): expected text in UTF-8, found the byte 255"),
         ]
         for change, words in cases:
             with self.subTest(words=words):

@@ -182,9 +182,10 @@ class Words(unittest.TestCase):
 
     def test_largest_day(self):
         """A largest day is shown and explained within seconds."""
-        subprocess.run([sys.executable, str(stored.ROOT / "second" / "stored.py"), "--maximal", str(self.folder)], check=True, capture_output=True)
-        day, clearing = self.folder / "day.bin", self.folder / "clearing.bin"
-        for words in (("show", day), ("show", clearing, "--day", day), ("explain", day, clearing), ("page", day, clearing, "-o", self.folder / "a.html")):
+        maker = str(stored.ROOT / "second" / "stored.py")
+        subprocess.run([sys.executable, maker, "--maximal", str(self.folder)], check=True, capture_output=True)
+        day, clearing, page = (self.folder / name for name in ("day.bin", "clearing.bin", "a.html"))
+        for words in (("show", day), ("show", clearing, "--day", day), ("explain", day, clearing), ("page", day, clearing, "-o", page)):
             done = subprocess.run([COMMAND, *map(str, words)], capture_output=True, timeout=20)
             self.assertEqual((done.returncode, done.stderr), (0, b""))
 
