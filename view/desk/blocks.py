@@ -1,0 +1,55 @@
+"""All blocks as a table, with their quantities over the periods as a small strip."""
+
+from .layout import ENERGY, MONEY, PRICE, SHARE, SIDE, VOLUME
+from .marks import flag
+from .market import WHOLE
+from .markup import classes, scrolled, svg, table, tag
+from .numbers import grouped, said, with_unit
+
+STEP, TALL = 6, 24  # units of a period's bar
+HEAD = ("block", "zone", "side", "limit, \u20ac/MWh", "whole quantity, MWh", "least ratio", "ratio", "quantity by period", "income, \u20ac",
+        "limit times quantity, \u20ac", "gain, \u20ac", "in the shortfall, \u20ac")
+WORDS = ("Income, limit times quantity and gain are those of the whole block at the stated prices; the gain is what a sell block gets above its "
+         "limit, or a buy block pays below it. What counts in the shortfall is the gain of what is left unaccepted, where that is above zero.")
+
+
+def bars(heights):
+    """Bars of these heights as one path."""
+    return "".join(f"M{STEP * period} {TALL}h{STEP - 1}v-{height}h-{STEP - 1}z" for period, height in enumerate(heights) if height)
+
+
+def strip(block, marked_period):
+    """The quantities over the periods; what is accepted of them is solid."""
+    greatest = max(block.quantity)
+    heights = [max(1, TALL * quantity // greatest) if quantity else 0 for quantity in block.quantity]
+    done = [max(1, height * block.ratio // WHOLE) if height and block.ratio else 0 for height in heights]
+    words = ", ".join(f"{with_unit(quantity, VOLUME)} in period {period}" for period, quantity in enumerate(block.quantity) if quantity)
+    place = "" if marked_period is None else tag("rect", x=STEP * marked_period - 1, y=0, width=STEP + 1, height=TALL, class_="outline place",
+                                                 data_block_period=f"{block.row} {marked_period}")
+    return svg(STEP * len(heights), TALL, tag("title", words), tag("path", d=f"M0 {TALL}H{STEP * len(heights)}", class_="zero"),
+               tag("path", d=bars(heights), class_="rest"), tag("path", d=bars(done), class_="done") if block.ratio else "", place,
+               width=STEP * len(heights), height=TALL, class_=classes("strip", SIDE.words[block.side]))
+
+
+def ratio_bar(block):
+    return svg(50, 8, tag("rect", width=50, height=8, rx=2, class_="rest"), tag("rect", width=50 * block.ratio // WHOLE, height=8, rx=2, class_="done"),
+               width=50, height=8, class_=classes("ratio", SIDE.words[block.side]), aria_hidden="true")
+
+
+def row(market, marks, block):
+    place = marks.block == block.row
+    least = said(block.least_allowed, SHARE) + (" (0 in the file)" if block.least == 0 else "")
+    money = [grouped(said(amount, MONEY))
+             for amount in (market.income(block), market.at_limit(block), market.gain(block), market.shortfall(block))]
+    cells = [tag("th", block.row, " ", flag() if place else "", scope="row"),
+             tag("td", tag("b", market.codes[block.zone]), tag("small", f" zone {block.zone}")), tag("td", SIDE.words[block.side]),
+             tag("td", said(block.limit, PRICE)), tag("td", grouped(said(sum(block.quantity), ENERGY))), tag("td", least),
+             tag("td", said(block.ratio, SHARE), " ", ratio_bar(block)), tag("td", strip(block, marks.block_period if place else None)),
+             *(tag("td", amount) for amount in money)]
+    return tag("tr", *cells, class_="place" if place else None, data_block=block.row)
+
+
+def pictures(market, marks):
+    if not market.blocks:
+        return [tag("p", "The day has no blocks.", class_="none")]
+    return [scrolled(table(HEAD, [row(market, marks, block) for block in market.blocks], class_="blocks")), tag("p", WORDS, class_="note")]
