@@ -6,29 +6,30 @@ from .market import WHOLE
 from .markup import classes, scrolled, svg, table, tag
 from .numbers import grouped, said, with_unit
 
-STEP, TALL = 6, 24  # units of a period's bar
+TALL, WIDE = 24, 48  # units of a strip; with many periods it is wider
 HEAD = ("block", "zone", "side", "limit, \u20ac/MWh", "whole quantity, MWh", "least ratio", "ratio", "quantity by period", "income, \u20ac",
         "limit times quantity, \u20ac", "gain, \u20ac", "in the shortfall, \u20ac")
 WORDS = ("Income, limit times quantity and gain are those of the whole block at the stated prices; the gain is what a sell block gets above its "
          "limit, or a buy block pays below it. What counts in the shortfall is the gain of what is left unaccepted, where that is above zero.")
 
 
-def bars(heights):
+def bars(heights, step):
     """Bars of these heights as one path."""
-    return "".join(f"M{STEP * period} {TALL}h{STEP - 1}v-{height}h-{STEP - 1}z" for period, height in enumerate(heights) if height)
+    return "".join(f"M{step * period} {TALL}h{step - 1}v-{height}h-{step - 1}z" for period, height in enumerate(heights) if height)
 
 
 def strip(block, marked_period):
     """The quantities over the periods; what is accepted of them is solid."""
-    greatest = max(block.quantity)
+    greatest, step = max(block.quantity), max(6, WIDE // len(block.quantity))
     heights = [max(1, TALL * quantity // greatest) if quantity else 0 for quantity in block.quantity]
     done = [max(1, height * block.ratio // WHOLE) if height and block.ratio else 0 for height in heights]
     words = ", ".join(f"{with_unit(quantity, VOLUME)} in period {period}" for period, quantity in enumerate(block.quantity) if quantity)
-    place = "" if marked_period is None else tag("rect", x=STEP * marked_period - 1, y=0, width=STEP + 1, height=TALL, class_="outline place",
+    place = "" if marked_period is None else tag("rect", x=step * marked_period - 1, y=0, width=step + 1, height=TALL, class_="outline place",
                                                  data_block_period=f"{block.row} {marked_period}")
-    return svg(STEP * len(heights), TALL, tag("title", words), tag("path", d=f"M0 {TALL}H{STEP * len(heights)}", class_="zero"),
-               tag("path", d=bars(heights), class_="rest"), tag("path", d=bars(done), class_="done") if block.ratio else "", place,
-               width=STEP * len(heights), height=TALL, class_=classes("strip", SIDE.words[block.side]))
+    width = step * len(heights)
+    return svg(width, TALL, tag("title", words), tag("path", d=f"M0 {TALL}H{width}", class_="zero"),
+               tag("path", d=bars(heights, step), class_="rest"), tag("path", d=bars(done, step), class_="done") if block.ratio else "", place,
+               width=width, height=TALL, class_=classes("strip", SIDE.words[block.side]))
 
 
 def ratio_bar(block):

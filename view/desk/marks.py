@@ -8,6 +8,7 @@ from .paper import NUMBERS
 
 WORDS = "refused here"
 SIGN = "\u00d7"  # a cross, wherever there is no room for the words
+FLAG_WIDTH = 116  # units of both in a picture
 
 
 @dataclass(frozen=True)
@@ -68,5 +69,3 @@ def svg_flag(x, y):
     return tag("g", tag("rect", x=x, y=y - 18, width=FLAG_WIDTH, height=18, rx=3),
                tag("text", f"{SIGN} {WORDS}", x=x + FLAG_WIDTH // 2, y=y - 5, text_anchor="middle"), class_="flag")
 
-
-FLAG_WIDTH = 104

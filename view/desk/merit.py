@@ -12,10 +12,11 @@ from .network import wide
 from .numbers import said, with_unit
 
 WIDTH, HEIGHT = 500, 300
-LEFT, RIGHT, TOP, BOTTOM = 74, 492, 14, 268  # of the room that the bars have
+LEFT, RIGHT, TOP, BOTTOM = 80, 492, 14, 268  # of the room that the bars have
 LEAST = 3  # units of the narrowest bar
 NEAR = 2_000  # hundredths of a euro around the price that the axis has at least
 FAR = 6  # times as far as those nearer to the price: such a limit is cut
+ZERO_NEAR = 3  # the axis starts at 0 where that is not farther than so many times what it shows
 TICKS = 6
 
 
@@ -85,6 +86,8 @@ def axis_of(price, orders):
     near = [order.limit for order in orders if abs(order.limit - price) <= radius] + [price]
     lowest, highest = min(near), max(near)
     margin = max(100, (highest - lowest) // 8)
+    if 0 <= lowest <= ZERO_NEAR * (highest - lowest):
+        return Axis(0, highest + margin)
     return Axis(lowest - margin, highest + margin)
 
 
@@ -156,18 +159,28 @@ def limit_label(order, axis, x, width, top):
                text_anchor="middle")
 
 
+def grid(axis, free):
+    """The axis: a thin line and a text for each tick; no text where the price stands."""
+    return [tag("g", tag("path", d=f"M{LEFT} {axis.y(tick)}H{RIGHT}"),
+                tag("text", said(tick, PRICE), x=LEFT - 8, y=axis.y(tick) + 4, text_anchor="end") if abs(axis.y(tick) - free) > 14 else "",
+                class_=classes("tick", "" if tick else "zero"))
+            for tick in axis.ticks()]
+
+
+def price_line(price, y):
+    """The zone's price, across the bars and on the axis."""
+    return tag("g", tag("title", f"price {with_unit(price, PRICE)}"), tag("path", d=f"M{LEFT - 2} {y}H{RIGHT}"),
+               tag("rect", x=0, y=y - 10, width=LEFT - 2, height=20, rx=4),
+               tag("text", said(price, PRICE), x=LEFT - 8, y=y + 4, text_anchor="end"), class_="price-line")
+
+
 def side_drawn(orders, side, axis, price, marked, most_orders, most_quantity):
     mine = [order for order in orders if order.side == side]
     drawn = bars(mine, axis, marked, most_orders, most_quantity)
     y, quantity = axis.y(price), sum(order.quantity for order in mine)
-    grid = [tag("g", tag("path", d=f"M{LEFT} {axis.y(tick)}H{RIGHT}"),
-                tag("text", said(tick, PRICE), x=LEFT - 6, y=axis.y(tick) + 4, text_anchor="end"), class_=classes("tick", "" if tick else "zero"))
-            for tick in axis.ticks()]
     words = f"{SIDE.words[side]}s: {with_unit(sum(order.accepted for order in mine), VOLUME)} accepted of {with_unit(quantity, VOLUME)}"
     foot = tag("text", words if mine else f"no {SIDE.words[side]}s", x=LEFT, y=HEIGHT - 10, class_="foot")
-    line = tag("g", tag("path", d=f"M{LEFT} {y}H{RIGHT}"),
-               tag("text", f"price {said(price, PRICE)}", x=RIGHT - 4, y=y - 6, text_anchor="end"), class_="price-line")
-    return svg(WIDTH, HEIGHT, *grid, *drawn, line, foot, role="img", aria_label=words, class_="merit")
+    return svg(WIDTH, HEIGHT, *grid(axis, y), *drawn, price_line(price, y), foot, role="img", aria_label=words, class_="merit")
 
 
 # ---- a zone and period

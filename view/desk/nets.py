@@ -8,6 +8,7 @@ from .numbers import grouped, said, with_unit
 
 HALF = 48  # the greatest height of a bar, to either side of zero
 ZERO = 50
+FEW = 8  # periods; with more the strips take the whole width
 
 
 def bar(net, greatest):
@@ -32,9 +33,9 @@ def chosen_net(zone, nets, shown):
     return tag("td", *words, class_="said")
 
 
-def heads(market, marks, pick=True):
+def heads(market, marks):
     """A head for each period."""
-    return [tag("th", period, sign() if period in marks.periods else "", data_pick_period=period if pick else None, scope="col")
+    return [tag("th", period, sign() if period in marks.periods else "", data_pick_period=period, scope="col")
             for period in range(market.periods)]
 
 
@@ -49,7 +50,8 @@ def chart(market, nets, marks, shown):
     scale = tag("p", f"All strips have one scale: a bar of full height is {grouped(said(greatest, VOLUME))} MW. ",
                 tag("span", "\u25b2 above the line: exports", class_="export"), ", ",
                 tag("span", "\u25bc below it: imports", class_="import"), ".", class_="note")
-    return [table([tag("th", "zone", scope="col"), *heads(market, marks), tag("th", "")], rows, class_="strips"), scale]
+    head = [tag("th", "zone", scope="col"), *heads(market, marks), tag("th", "")]
+    return [table(head, rows, class_=classes("strips", "few" if market.periods <= FEW else "")), scale]
 
 
 def numbers(market, nets, marks):

@@ -2,6 +2,7 @@
 all periods; it is found once, in whole numbers."""
 
 from dataclasses import dataclass
+from itertools import combinations
 from math import isqrt
 from typing import Tuple
 
@@ -168,7 +169,8 @@ class Plan:
         across, down = RADII[self.market.zones]
         if self.market.zones == 2:
             across = (self.card_width + label_width) // 2 + 60
-        return [box_around((x * across // 1000, y * down // 1000), self.card_width, CARD_HEIGHT) for x, y in RING[self.market.zones]]
+        spots = [(x * across // 1000, y * down // 1000) for x, y in RING[self.market.zones]]
+        return [box_around(spots[spot], self.card_width, CARD_HEIGHT) for spot in seated(spots, self.market.lines)]
 
     def curve(self, line):
         """The line's curve; those that join the same zones lie beside one another."""
@@ -185,6 +187,25 @@ class Plan:
         left, top = min(box.left for box in boxes) - MARGIN, min(box.top for box in boxes) - MARGIN - FLAG_HEIGHT
         right, bottom = max(box.left + box.width for box in boxes), max(box.top + box.height for box in boxes)
         return Box(left, top, right - left + MARGIN, bottom - top + MARGIN)
+
+
+def seated(spots, lines):
+    """Which spot each zone has: in their order around the ring, save that two zones change places as long as this makes the lines shorter."""
+    seats = list(range(len(spots)))
+
+    def length():
+        return sum((spots[seats[line.start]][0] - spots[seats[line.end]][0]) ** 2 + (spots[seats[line.start]][1] - spots[seats[line.end]][1]) ** 2
+                   for line in lines)
+    shortest, better = length(), True
+    while better:
+        better = False
+        for one, other in combinations(range(len(seats)), 2):
+            seats[one], seats[other] = seats[other], seats[one]
+            if length() < shortest:
+                shortest, better = length(), True
+            else:
+                seats[one], seats[other] = seats[other], seats[one]
+    return seats
 
 
 def middle_of(box):
