@@ -5,10 +5,12 @@ from dataclasses import dataclass
 from .layout import COUNT, calcsize
 from .marks import WORDS, flag
 from .markup import classes, svg, table, tag
+from .network import wide
 from .show import MARK, lines_of_part, lines_of_rest, lines_of_rows
 
 WIDTH, TALL = 1000, 64
-LEAST = 14  # units of the narrowest segment
+LEAST = 24  # units of the narrowest segment
+NAME_SIZE = 26  # units of a letter, at most
 ROWS = {False: 6, True: 2}  # rows before the fault that are shown; fewer where a row has fields for each period
 
 
@@ -61,25 +63,30 @@ def widths_of(segments):
     return [LEAST + room * segment.length // whole for segment in segments]
 
 
+def holder(segments, at):
+    """The segment that has the byte of the fault, or would have it."""
+    return None if at is None else [segment for segment in segments if segment.offset <= at][-1]
+
+
 def bar(segments, at):
     """The segments as one bar; the byte `at` is marked."""
-    drawn, x, mark = [], 0, None
+    drawn, marked, x = [], [], 0
     for segment, width in zip(segments, widths_of(segments)):
+        name = segment.name if wide(segment.name, NAME_SIZE) < width else segment.name.split()[0] if segment.kind == "section" else ""
         drawn.append(tag("g", tag("title", f"{segment.name}: from {segment.offset}, {segment.length} bytes"),
-                         tag("rect", x=x, y=14, width=width - 2, height=30, rx=2), tag("text", segment.name.split()[0] if width < 150 else segment.name,
-                                                                                    x=x + 7, y=34), class_=classes("segment", segment.kind)))
-        if at is not None and segment.offset <= at < segment.offset + max(1, segment.length):
-            mark = x + width * (at - segment.offset) // max(1, segment.length)
+                         tag("rect", x=x, y=14, width=width - 2, height=34, rx=2), tag("text", name, x=x + 5, y=37),
+                         class_=classes("segment", segment.kind)))
+        if segment is holder(segments, at):
+            byte = x + width * (at - segment.offset) // max(1, segment.length)
+            marked.append(tag("path", d=f"M{byte} 8V54M{byte - 8} 0H{byte + 8}L{byte} 12z", class_="place at"))
         x += width
-    if mark is not None:
-        drawn.append(tag("path", d=f"M{mark} 8V50M{mark - 8} 0H{mark + 8}L{mark} 12z", class_="place at"))
-    return svg(WIDTH, TALL, *drawn, class_="map", role="img", aria_label="The bytes of the file")
+    return svg(x, TALL, *drawn, *marked, class_="map", role="img", aria_label="The bytes of the file")
 
 
 def bytes_table(segments, at):
     rows = []
     for segment in segments:
-        place = at is not None and segment.offset <= at < segment.offset + max(1, segment.length)
+        place = segment is holder(segments, at)
         rows.append(tag("tr", tag("td", segment.name), tag("td", segment.offset), tag("td", segment.length),
                         tag("td", flag(), f" at byte {at}") if place else tag("td", ""), class_="place" if place else None))
     return table(("section", "starts at", "bytes", ""), rows, class_="exact")
