@@ -65,7 +65,8 @@ def account_part(account):
     """Facts, tables and what follows from them."""
     parts = [tag("h2", account.title)] if account.title else []
     if account.facts:
-        parts.append(scrolled(table(("", "", "whole number", ""), [fact_row(fact) for fact in account.facts], class_="facts")))
+        raw = "whole number" if any(fact.text for fact in account.facts) else ""
+        parts.append(scrolled(table(("", "", raw, ""), [fact_row(fact) for fact in account.facts], class_="facts")))
     for one in account.tables:
         head = [f"{name}, {unit.name}" if unit.name else name for name, unit in one.columns]
         rows = [[said(raw, unit) for raw, (_, unit) in zip(row, one.columns)] for row in one.rows]
