@@ -4,7 +4,7 @@ from dataclasses import dataclass
 
 from .layout import COUNT, calcsize
 from .marks import WORDS, flag
-from .markup import classes, svg, table, tag
+from .markup import classes, scrolled, svg, table, tag
 from .network import wide
 from .show import MARK, lines_of_part, lines_of_rest, lines_of_rows
 
@@ -89,7 +89,7 @@ def bytes_table(segments, at):
         place = segment is holder(segments, at)
         rows.append(tag("tr", tag("td", segment.name), tag("td", segment.offset), tag("td", segment.length),
                         tag("td", flag(), f" at byte {at}") if place else tag("td", ""), class_="place" if place else None))
-    return table(("section", "starts at", "bytes", ""), rows, class_="exact")
+    return scrolled(table(("section", "starts at", "bytes", ""), rows, class_="exact"))
 
 
 def file_map(reading):

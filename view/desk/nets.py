@@ -26,31 +26,30 @@ def cell(market, marks, zone, period, net, greatest):
                data_bar=f"{zone} {period}", data_pick_period=period, data_pick_zone=zone)
 
 
-def chosen_net(zone, nets, shown):
-    """The net position of the chosen period, beside the strip."""
-    words = [tag("span", trade_words(net), class_=classes("choice", trade_class(net)), data_when_period=period, hidden=period != shown)
-             for period, net in enumerate(nets[zone])]
-    return tag("td", *words, class_="said")
-
-
 def heads(market, marks):
     """A head for each period."""
     return [tag("th", period, sign() if period in marks.periods else "", data_pick_period=period, scope="col")
             for period in range(market.periods)]
 
 
-def zone_head(market, zone):
-    return tag("th", tag("b", market.codes[zone]), tag("small", f" zone {zone}"), scope="row", data_pick_zone=zone)
+def zone_head(market, zone, *more):
+    return tag("th", tag("b", market.codes[zone]), tag("small", f" zone {zone}"), *more, scope="row", data_pick_zone=zone)
+
+
+def chosen_net(nets, shown):
+    """The net position of the chosen period, beside its strip."""
+    return [tag("span", trade_words(net), class_=classes("choice", "said", trade_class(net)), data_when_period=period, hidden=period != shown)
+            for period, net in enumerate(nets)]
 
 
 def chart(market, nets, marks, shown):
     greatest = max(1, max(abs(net) for zone in nets for net in zone))
-    rows = [tag("tr", zone_head(market, zone), *(cell(market, marks, zone, period, net, greatest) for period, net in enumerate(nets[zone])),
-                chosen_net(zone, nets, shown)) for zone in range(market.zones)]
+    rows = [tag("tr", zone_head(market, zone, *chosen_net(nets[zone], shown)),
+                *(cell(market, marks, zone, period, net, greatest) for period, net in enumerate(nets[zone]))) for zone in range(market.zones)]
     scale = tag("p", f"All strips have one scale: a bar of full height is {grouped(said(greatest, VOLUME))} MW. ",
                 tag("span", "\u25b2 above the line: exports", class_="export"), ", ",
                 tag("span", "\u25bc below it: imports", class_="import"), ".", class_="note")
-    head = [tag("th", "zone", scope="col"), *heads(market, marks), tag("th", "")]
+    head = [tag("th", "zone", scope="col"), *heads(market, marks)]
     return [table(head, rows, class_=classes("strips", "few" if market.periods <= FEW else "")), scale]
 
 

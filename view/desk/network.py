@@ -28,7 +28,8 @@ STEPS = 128  # of the walk along a curve
 BESIDE = 50  # between two lines that join the same zones
 CARD_HEIGHT, LABEL_HEIGHT, FLAG_HEIGHT = 80, 38, 22
 TAIL, HEAD = 4, 19  # free units between a zone and its end of a line, without and with an arrow
-ROUNDS = 4  # of finding better places for the labels
+ROUNDS = 3  # of finding better places for the labels
+STRETCHES = range(100, 221, 15)  # hundredths of the least room that are tried, until no label lies on another
 MARGIN = 14
 
 
@@ -152,11 +153,22 @@ class Plan:
         words = [trade_words(net) for zone in nets for net in zone]
         words += [with_unit(price, PRICE) for prices in market.price for price in prices]
         self.card_width = max(132, max(wide(text, 13) for text in words) + 24)
-        sizes = [self.label_size(line) for line in market.lines]
-        self.cards = self.placed_cards(max((width for width, _ in sizes), default=0))
-        self.curves = [self.curve(line) for line in market.lines]
-        self.labels = placed_labels(self.curves, sizes, self.cards, market.lines)
+        self.sizes = [self.label_size(line) for line in market.lines]
+        for stretch in STRETCHES:
+            self.lay_out(stretch)
+            if not self.crowded():
+                break
         self.frame = self.around()
+
+    def lay_out(self, stretch):
+        """Places everything, in so many hundredths of the least room."""
+        self.cards = self.placed_cards(stretch)
+        self.curves = [self.curve(line, BESIDE * stretch // 100) for line in self.market.lines]
+        self.labels = placed_labels(self.curves, self.sizes, self.cards, self.market.lines)
+
+    def crowded(self):
+        """Whether a label lies on another or on a zone."""
+        return any(one.overlap(other) for one, other in combinations(self.labels + self.cards, 2))
 
     def label_size(self, line):
         texts = [flow_of(self.market, line, period).words for period in range(self.market.periods)]
@@ -165,18 +177,18 @@ class Plan:
             return max(width, FLAG_WIDTH), LABEL_HEIGHT + FLAG_HEIGHT
         return width, LABEL_HEIGHT
 
-    def placed_cards(self, label_width):
+    def placed_cards(self, stretch):
         across, down = RADII[self.market.zones]
         if self.market.zones == 2:
-            across = (self.card_width + label_width) // 2 + 60
-        spots = [(x * across // 1000, y * down // 1000) for x, y in RING[self.market.zones]]
+            across = (self.card_width + max((width for width, _ in self.sizes), default=0)) // 2 + 60
+        spots = [(x * across * stretch // 100_000, y * down * stretch // 100_000) for x, y in RING[self.market.zones]]
         return [box_around(spots[spot], self.card_width, CARD_HEIGHT) for spot in seated(spots, self.market.lines)]
 
-    def curve(self, line):
+    def curve(self, line, apart):
         """The line's curve; those that join the same zones lie beside one another."""
         ends = sorted((line.start, line.end))
         beside = [other.row for other in self.market.lines if sorted((other.start, other.end)) == ends]
-        aside = (2 * beside.index(line.row) - len(beside) + 1) * BESIDE // 2
+        aside = (2 * beside.index(line.row) - len(beside) + 1) * apart // 2
         low, high = (middle_of(self.cards[zone]) for zone in ends)
         curve = bow(low, high, aside)
         return curve if line.start == ends[0] else curve.back()
@@ -214,7 +226,7 @@ def middle_of(box):
 
 def placed_labels(curves, sizes, cards, lines):
     """A place on its curve for each label, where it hides the least: each looks for a better one in turn, some rounds long."""
-    points = [[curve.at(step) for step in range(0, STEPS + 1, 8)] for curve in curves]
+    points = [[curve.at(step) for step in range(0, STEPS + 1, 12)] for curve in curves]
     spots = [label_spots(curve, cards[line.start], cards[line.end], size) for curve, line, size in zip(curves, lines, sizes)]
     labels = [mine[len(mine) // 2] for mine in spots]
     for _ in range(ROUNDS):
@@ -256,26 +268,26 @@ def zone_card(plan, zone, period, heat):
                class_=classes("zone", "place" if place else ""), data_node=f"{zone} {period}", data_pick_zone=zone)
 
 
-def line_drawn(plan, line, period):
-    """A line from its tail to its head, and its label."""
+def course_drawn(plan, line, period):
+    """The way of a line, from its tail to its head."""
     flow = flow_of(plan.market, line, period)
     curve, ends = plan.curves[line.row], (plan.cards[line.start], plan.cards[line.end])
     if not flow.forward:
         curve, ends = curve.back(), ends[::-1]
     last = STEPS - curve.back().leaves(ends[1], HEAD if flow.size else TAIL)
     path = curve.path(curve.leaves(ends[0], TAIL), last)
-    place = plan.marks.line == (line.row, period)
     arrow = f"url(#arrow{'-' + flow.state if flow.state else ''})" if flow.size else None
-    return tag("g", tag("title", line_words(plan.market, line, period)),
-               tag("path", d=path, class_="halo") if place else "",
-               tag("path", d=path, class_=classes("flow", flow.state, "" if flow.size else "idle"), stroke_width=flow.thickness, marker_end=arrow),
-               *label_drawn(plan.labels[line.row], line, flow, place),
-               class_=classes("line", "place" if place else ""), data_line=f"{line.row} {period}")
+    halo = [tag("path", d=path, class_="halo")] if plan.marks.line == (line.row, period) else []
+    return halo + [tag("path", d=path, class_=classes("flow", flow.state, "" if flow.size else "idle"), stroke_width=flow.thickness,
+                       marker_end=arrow)]
 
 
-def label_drawn(box, line, flow, place):
+def label_drawn(plan, line, period):
+    """What a line is called and carries."""
+    flow, box, place = flow_of(plan.market, line, period), plan.labels[line.row], plan.marks.line == (line.row, period)
     x = box.left + box.width // 2
-    shown = [tag("rect", x=box.left, y=box.top, width=box.width, height=LABEL_HEIGHT, rx=5, class_="label"),
+    shown = [tag("title", line_words(plan.market, line, period)),
+             tag("rect", x=box.left, y=box.top, width=box.width, height=LABEL_HEIGHT, rx=5, class_="label"),
              tag("text", f"line {line.row}", x=box.left + 7, y=box.top + 14, class_="aside"),
              tag("text", flow.words, x=x, y=box.top + 31, class_="amount", text_anchor="middle")]
     if flow.state:
@@ -285,7 +297,7 @@ def label_drawn(box, line, flow, place):
                   tag("text", flow.state, x=left + width // 2, y=box.top + 14, class_=classes("badge", flow.state), text_anchor="middle")]
     if place:
         shown.append(svg_flag(x - FLAG_WIDTH // 2, box.top + LABEL_HEIGHT + FLAG_HEIGHT - 2))
-    return shown
+    return tag("g", *shown, class_=classes("line", "place" if place else ""), data_line=f"{line.row} {period}")
 
 
 def line_words(market, line, period):
@@ -296,9 +308,10 @@ def line_words(market, line, period):
 
 def picture(plan, period, heat):
     frame = plan.frame
-    lines = [line_drawn(plan, line, period) for line in plan.market.lines]
+    courses = [path for line in plan.market.lines for path in course_drawn(plan, line, period)]
+    labels = [label_drawn(plan, line, period) for line in plan.market.lines]
     cards = [zone_card(plan, zone, period, heat) for zone in range(plan.market.zones)]
-    return svg(frame.width, frame.height, *lines, *cards, left=frame.left, top=frame.top, role="img",
+    return svg(frame.width, frame.height, *courses, *cards, *labels, left=frame.left, top=frame.top, role="img",
                aria_label=f"The network in period {period}", width=frame.width, class_="network")
 
 

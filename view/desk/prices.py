@@ -16,14 +16,10 @@ def cell(market, marks, heat, zone, period):
 
 def scale(heat):
     """What the colours mean."""
-    base = max(heat.lowest, 0)
-    parts = []
-    if heat.lowest < 0:
-        parts += [tag("span", said(heat.lowest, PRICE), class_=classes("swatch", heat.of(heat.lowest))), " the lowest, below zero (underlined); "]
-    if heat.highest >= 0:
-        parts += [tag("span", said(base, PRICE), class_=classes("swatch", heat.of(base))), " to ",
-                  tag("span", said(heat.highest, PRICE), class_=classes("swatch", heat.of(heat.highest))), " the highest of the day"]
-    return tag("p", *parts, f", in {PRICE.name}.", class_="note")
+    def swatch(price):
+        return tag("span", said(price, PRICE), class_=classes("swatch", heat.of(price)))
+    words = [swatch(heat.lowest), " the lowest ", swatch(heat.highest), f" the highest of the day, in {PRICE.name}."]
+    return tag("p", *words, " Prices below zero have a colour of their own and are underlined." if heat.lowest < 0 else "", class_="note")
 
 
 def pictures(market, marks, heat):
