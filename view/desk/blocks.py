@@ -3,14 +3,15 @@
 from .layout import ENERGY, MONEY, PRICE, SHARE, SIDE, VOLUME
 from .marks import flag
 from .market import WHOLE
-from .markup import classes, scrolled, svg, table, tag
+from .markup import scrolled, svg, table, tag
 from .numbers import grouped, said, with_unit
 
 TALL, WIDE = 24, 48  # units of a strip; with many periods it is wider
 HEAD = ("block", "zone", "side", "limit, \u20ac/MWh", "whole quantity, MWh", "least ratio", "ratio", "quantity by period", "income, \u20ac",
         "limit times quantity, \u20ac", "gain, \u20ac", "in the shortfall, \u20ac")
-WORDS = ("Income, limit times quantity and gain are those of the whole block at the stated prices; the gain is what a sell block gets above its "
-         "limit, or a buy block pays below it. What counts in the shortfall is the gain of what is left unaccepted, where that is above zero.")
+WORDS = ("Income, limit times quantity and gain are those of the whole block at the stated prices; the gain is what a sell block gets "
+         "above its limit, or a buy block pays below it. What counts in the shortfall is the gain of what is left unaccepted, where that "
+         "is above zero.")
 
 
 def bars(heights, step):
@@ -24,17 +25,19 @@ def strip(block, marked_period):
     heights = [max(1, TALL * quantity // greatest) if quantity else 0 for quantity in block.quantity]
     done = [max(1, height * block.ratio // WHOLE) if height and block.ratio else 0 for height in heights]
     words = ", ".join(f"{with_unit(quantity, VOLUME)} in period {period}" for period, quantity in enumerate(block.quantity) if quantity)
-    place = "" if marked_period is None else tag("rect", x=step * marked_period - 1, y=0, width=step + 1, height=TALL, class_="outline place",
-                                                 data_block_period=f"{block.row} {marked_period}")
     width = step * len(heights)
-    return svg(width, TALL, tag("title", words), tag("path", d=f"M0 {TALL}H{width}", class_="zero"),
-               tag("path", d=bars(heights, step), class_="rest"), tag("path", d=bars(done, step), class_="done") if block.ratio else "", place,
-               width=width, height=TALL, class_=classes("strip", SIDE.words[block.side]))
+    parts = [tag("title", words), tag("path", d=f"M0 {TALL}H{width}", class_="zero"), tag("path", d=bars(heights, step), class_="rest")]
+    if block.ratio:
+        parts.append(tag("path", d=bars(done, step), class_="done"))
+    if marked_period is not None:
+        parts.append(tag("rect", x=step * marked_period - 1, y=0, width=step + 1, height=TALL, class_="outline place",
+                         data_block_period=f"{block.row} {marked_period}"))
+    return svg(width, TALL, *parts, width=width, height=TALL, class_=f"strip {SIDE.words[block.side]}")
 
 
 def ratio_bar(block):
-    return svg(50, 8, tag("rect", width=50, height=8, rx=2, class_="rest"), tag("rect", width=50 * block.ratio // WHOLE, height=8, rx=2, class_="done"),
-               width=50, height=8, class_=classes("ratio", SIDE.words[block.side]), aria_hidden="true")
+    bars = [tag("rect", width=width, height=8, rx=2, class_=name) for width, name in ((50, "rest"), (50 * block.ratio // WHOLE, "done"))]
+    return svg(50, 8, *bars, width=50, height=8, class_=f"ratio {SIDE.words[block.side]}", aria_hidden="true")
 
 
 def row(market, marks, block):

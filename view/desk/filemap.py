@@ -1,14 +1,15 @@
 """A file that does not read, as a map of its bytes: its sections as far as they were read, where the fault is, and the rows around it."""
 
 from dataclasses import dataclass
+from struct import calcsize
 
-from .layout import COUNT, calcsize
+from .layout import COUNT
 from .marks import WORDS, flag
-from .markup import classes, scrolled, svg, table, tag
-from .network import wide
+from .markup import classes, scrolled, svg, table, tag, wide
 from .show import MARK, lines_of_part, lines_of_rest, lines_of_rows
 
 WIDTH, TALL = 1000, 64
+COUNTED = calcsize("<" + COUNT)  # bytes of a section's count
 LEAST = 24  # units of the narrowest segment
 NAME_SIZE = 26  # units of a letter, at most
 ROWS = {False: 6, True: 2}  # rows before the fault that are shown; fewer where a row has fields for each period
@@ -25,23 +26,24 @@ class Segment:
 
 def needed_end(reading, part):
     """Where a section ends, or would."""
-    start = part.offset + calcsize("<" + COUNT)
+    start = part.offset + COUNTED
     return start if part.count is None else start + part.section.width(reading.periods) * part.count
 
 
 def segments_of(reading):
     """The bytes of a file one behind the other, as far as its sections are known, and the rest."""
-    found, length, fault = [], reading.file.length, reading.fault
+    kind, length, number = reading.kind, reading.file.length, reading.fault.number if reading.fault is not None else None
+    found, end = [], 0
     for part in reading.parts:
-        last = fault is not None and fault.number != reading.kind.trails and part is reading.parts[-1]
-        end = min(needed_end(reading, part), length) if not last or fault.number != reading.kind.miscounts else part.offset + calcsize("<" + COUNT)
-        found.append(Segment(f"{part.section.number} {part.section.name}", part.offset, end - part.offset))
-        if last and fault.number == reading.kind.ends:
-            found.append(Segment("missing", length, needed_end(reading, part) - length, "missing"))
-    end = found[-1].offset + found[-1].length
-    if end < length:
-        trails = fault is not None and fault.number == reading.kind.trails
-        found.append(Segment("behind the last section" if trails else "not read", end, length - end, "behind" if trails else "unread"))
+        counted = number == kind.miscounts and part is reading.parts[-1]
+        end = part.offset + COUNTED if counted else needed_end(reading, part)
+        found.append(Segment(f"{part.section.number} {part.section.name}", part.offset, min(end, length) - part.offset))
+    if number == kind.ends:
+        found.append(Segment("missing", length, end - length, "missing"))
+    elif number == kind.trails:
+        found.append(Segment("behind the last section", end, length - end, "behind"))
+    elif end < length:
+        found.append(Segment("not read", end, length - end, "unread"))
     return found
 
 

@@ -1,4 +1,4 @@
-"""Colours of prices: steps between the lowest and the highest of the day, in whole numbers. Prices below zero have a colour of their own."""
+"""Colours of prices, in whole numbers: steps between the lowest and the highest of the day. Those below zero have a colour of their own."""
 
 STEPS = 24
 

@@ -44,6 +44,11 @@ def svg(width, height, /, *inside, left=0, top=0, **attributes):
     return tag("svg", *inside, viewBox=f"{left} {top} {width} {height}", **attributes)
 
 
+def wide(text, size):
+    """The units that a text of this size needs in a picture, a little more than most letters do."""
+    return len(text) * size * 65 // 100
+
+
 def scrolled(*inside, class_=None):
     """What may be wider than a narrow screen: it scrolls by itself, so that the page does not."""
     return tag("div", *inside, class_=classes("scroll", class_))

@@ -1,5 +1,5 @@
-"""The merit order of a zone and period: its sells ascending and its buys descending, on one price axis. A bar is as wide as the quantity; what
-is accepted of it is solid, the rest light; a block is hatched. Bars that go beyond the axis are cut, with a break in them."""
+"""The merit order of a zone and period: its sells ascending and its buys descending, on one price axis. A bar is as wide as the quantity;
+what is accepted of it is solid, the rest light; a block is hatched. Bars that go beyond the axis are cut, with a break in them."""
 
 from dataclasses import dataclass
 
@@ -7,8 +7,7 @@ from .explain import VERB
 from .layout import PRICE, SIDE, VOLUME
 from .marks import FLAG_WIDTH, flag, sign, svg_flag
 from .market import BUY, SELL
-from .markup import classes, scrolled, svg, table, tag
-from .network import wide
+from .markup import classes, scrolled, svg, table, tag, unfolded, wide
 from .numbers import said, with_unit
 
 WIDTH, HEIGHT = 500, 300
@@ -76,8 +75,8 @@ class Axis:
 
 
 def axis_of(price, orders):
-    """An axis around the price, with the limits near it: one that is many times farther away than the others is left out, unless half of them
-    are."""
+    """An axis around the price, with the limits near it: one that is many times farther away than the others is left out, unless half of
+    them are."""
     away = sorted(abs(order.limit - price) for order in orders)
     radius = max(NEAR, away[(len(away) - 1) // 2])
     for distance in away:
@@ -101,16 +100,17 @@ def marked_order(marks, place):
 
 
 def bars(orders, axis, marked, most_orders, most_quantity):
-    """A bar for each order of a side, from left to right; the marked one is drawn last, over the others."""
+    """A bar for each order of a side, from left to right, and what is drawn over all of them: limits, and the marked bar."""
     least = min(LEAST, (RIGHT - LEFT) // most_orders)
     room = RIGHT - LEFT - least * most_orders
-    drawn, over, x = [], [], LEFT
+    under, limits, over, x = [], [], [], LEFT
     for order in orders:
         width = least + room * order.quantity // most_quantity
         place = order.name == marked
-        (over if place else drawn).append(bar(order, axis, x, width, place))
+        (over if place else under).append(bar(order, axis, x, width, place))
+        limits.append(limit_label(order, axis, x, width))
         x += width
-    return drawn + over
+    return under, limits + over
 
 
 def bar(order, axis, x, width, place):
@@ -125,7 +125,6 @@ def bar(order, axis, x, width, place):
         parts.append(tag("rect", x=x, width=inner, class_="hatch", **shape))
     if not axis.lowest <= order.limit <= axis.highest:
         parts.append(tag("path", d=f"M{x - 1} {cut_height(top)}L{x + width} {cut_height(top) - 6}", class_="cut"))
-    parts.append(limit_label(order, axis, x, width, top))
     if place:
         parts += [tag("rect", x=x - 1, width=inner + 2, class_="outline", **shape), order_flag(x + width // 2, top)]
     return tag("g", *parts, class_=classes("order", SIDE.words[order.side], "place" if place else ""), data_order=order.name)
@@ -149,8 +148,9 @@ def solid_part(order, width):
     return min(max(1, width * order.accepted // order.quantity), width - 1) if order.accepted else 0
 
 
-def limit_label(order, axis, x, width, top):
+def limit_label(order, axis, x, width):
     """The limit above its bar, where it has room there."""
+    top = axis.y(order.limit)
     arrow = "\u2191 " if order.limit > axis.highest else "\u2193 " if order.limit < axis.lowest else ""
     text = arrow + said(order.limit, PRICE)
     if wide(text, 11) > width:
@@ -176,11 +176,11 @@ def price_line(price, y):
 
 def side_drawn(orders, side, axis, price, marked, most_orders, most_quantity):
     mine = [order for order in orders if order.side == side]
-    drawn = bars(mine, axis, marked, most_orders, most_quantity)
+    under, over = bars(mine, axis, marked, most_orders, most_quantity)
     y, quantity = axis.y(price), sum(order.quantity for order in mine)
     words = f"{SIDE.words[side]}s: {with_unit(sum(order.accepted for order in mine), VOLUME)} accepted of {with_unit(quantity, VOLUME)}"
     foot = tag("text", words if mine else f"no {SIDE.words[side]}s", x=LEFT, y=HEIGHT - 10, class_="foot")
-    return svg(WIDTH, HEIGHT, *grid(axis, y), *drawn, price_line(price, y), foot, role="img", aria_label=words, class_="merit")
+    return svg(WIDTH, HEIGHT, *grid(axis, y), *under, price_line(price, y), *over, foot, role="img", aria_label=words, class_="merit")
 
 
 # ---- a zone and period
@@ -197,8 +197,19 @@ def picture(market, orders, marks, zone, period):
         marked = marked_order(marks, (zone, period))
         shown = tag("div", *(side_drawn(orders, side, axis, price, marked, *scale) for side in (SELL, BUY)), class_="sides")
     else:
-        shown = tag("p", "There are no orders here.", class_="none")
+        shown = nothing()
     return tag("figure", caption, shown, class_="place" if place else None, data_merit=f"{zone} {period}")
+
+
+def nothing():
+    return tag("p", "There are no orders here.", class_="none")
+
+
+def legend():
+    words = [f"{side}, {state}" for side in SIDE.words for state in ("accepted", "left")]
+    keys = [tag("span", tag("span", "", class_=f"key {one.replace(',', '')}"), f" {one}", class_="keyed") for one in words]
+    return tag("p", *keys, "Hatched: a block. A bar is as wide as its quantity, with a least width; one with a break goes on beyond the axis.",
+               class_="note")
 
 
 def order_table(orders, marked):
@@ -219,9 +230,5 @@ def pictures(market, marks, shown):
     def choice(place, *inside):
         return tag("div", *inside, class_="choice", data_when_zone=place[0], data_when_period=place[1], hidden=place != shown)
     drawn = [choice(place, picture(market, orders, marks, *place)) for place, orders in found.items()]
-    tables = [choice(place, order_table(orders, marked_order(marks, place)) if orders else tag("p", "There are no orders here.", class_="none"))
-              for place, orders in found.items()]
-    legend = tag("p", tag("span", "", class_="key sell done"), " sell, accepted ", tag("span", "", class_="key sell rest"), " sell, left ",
-                 tag("span", "", class_="key buy done"), " buy, accepted ", tag("span", "", class_="key buy rest"), " buy, left. ",
-                 "Hatched: a block. A bar is as wide as its quantity, with a least width; one with a break goes on beyond the axis.", class_="note")
-    return drawn + [legend, tag("details", tag("summary", "These orders as a table"), *tables)]
+    tables = [choice(place, order_table(orders, marked_order(marks, place)) if orders else nothing()) for place, orders in found.items()]
+    return drawn + [legend(), unfolded("These orders as a table", *tables)]

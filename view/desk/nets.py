@@ -38,14 +38,16 @@ def zone_head(market, zone, *more):
 
 def chosen_net(nets, shown):
     """The net position of the chosen period, beside its strip."""
-    return [tag("span", trade_words(net), class_=classes("choice", "said", trade_class(net)), data_when_period=period, hidden=period != shown)
+    return [tag("span", trade_words(net), class_=f"said {trade_class(net)}", data_when_period=period, hidden=period != shown)
             for period, net in enumerate(nets)]
 
 
 def chart(market, nets, marks, shown):
     greatest = max(1, max(abs(net) for zone in nets for net in zone))
-    rows = [tag("tr", zone_head(market, zone, *chosen_net(nets[zone], shown)),
-                *(cell(market, marks, zone, period, net, greatest) for period, net in enumerate(nets[zone]))) for zone in range(market.zones)]
+    rows = []
+    for zone, row in enumerate(nets):
+        cells = [cell(market, marks, zone, period, net, greatest) for period, net in enumerate(row)]
+        rows.append(tag("tr", zone_head(market, zone, *chosen_net(row, shown)), *cells))
     scale = tag("p", f"All strips have one scale: a bar of full height is {grouped(said(greatest, VOLUME))} MW. ",
                 tag("span", "\u25b2 above the line: exports", class_="export"), ", ",
                 tag("span", "\u25bc below it: imports", class_="import"), ".", class_="note")
@@ -57,8 +59,8 @@ def numbers(market, nets, marks):
     """The net positions as texts."""
     def number(zone, period, net):
         place = (zone, period) in marks.cells
-        return tag("td", said(net, VOLUME), sign() if place else "", class_="place" if place else None, data_net=f"{zone} {period}", data_raw=net,
-                   data_pick_period=period, data_pick_zone=zone)
+        return tag("td", said(net, VOLUME), sign() if place else "", class_="place" if place else None, data_net=f"{zone} {period}",
+                   data_raw=net, data_pick_period=period, data_pick_zone=zone)
     rows = [tag("tr", zone_head(market, zone), *(number(zone, period, net) for period, net in enumerate(nets[zone])))
             for zone in range(market.zones)]
     return scrolled(table([tag("th", "zone", scope="col"), *heads(market, marks)], rows, class_="grid"))

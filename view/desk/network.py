@@ -1,5 +1,5 @@
-"""The network as a picture for each period: zones with their price and net position, lines with their flow. Everything has the same place in
-all periods; it is found once, in whole numbers."""
+"""The network as a picture for each period: zones with their price and net position, lines with their flow. Everything has the same place
+in all periods; it is found once, in whole numbers."""
 
 from dataclasses import dataclass
 from itertools import combinations
@@ -8,7 +8,7 @@ from typing import Tuple
 
 from .layout import PRICE, VOLUME
 from .marks import FLAG_WIDTH, svg_flag
-from .markup import classes, scrolled, svg, table, tag, unfolded
+from .markup import classes, scrolled, svg, table, tag, unfolded, wide
 from .numbers import said, with_unit
 
 # where zones stand, in thousandths of the two radii, and these radii, by the number of zones
@@ -95,11 +95,6 @@ def bow(start, end, aside):
 
 
 # ---- what stands on it
-
-def wide(text, size):
-    """The units that a text needs, a little more than most letters do."""
-    return len(text) * size * 65 // 100
-
 
 def trade_words(net):
     """A net position in words, with a sign that points up where it leaves the zone."""
@@ -202,12 +197,12 @@ class Plan:
 
 
 def seated(spots, lines):
-    """Which spot each zone has: in their order around the ring, save that two zones change places as long as this makes the lines shorter."""
+    """Which spot each zone has: in their order around the ring, save that two change places as long as this makes the lines shorter."""
     seats = list(range(len(spots)))
 
     def length():
-        return sum((spots[seats[line.start]][0] - spots[seats[line.end]][0]) ** 2 + (spots[seats[line.start]][1] - spots[seats[line.end]][1]) ** 2
-                   for line in lines)
+        ends = [(spots[seats[line.start]], spots[seats[line.end]]) for line in lines]
+        return sum((one[0] - other[0]) ** 2 + (one[1] - other[1]) ** 2 for one, other in ends)
     shortest, better = length(), True
     while better:
         better = False
@@ -335,4 +330,5 @@ def pictures(market, nets, marks, heat, shown):
     drawn = [choice(period, scrolled(picture(plan, period, heat))) for period in periods]
     if not market.lines:
         return drawn + [tag("p", "The day has no lines.", class_="note")]
-    return drawn + [unfolded("Lines of this period as a table", *(choice(period, scrolled(line_table(plan, period))) for period in periods))]
+    tables = [choice(period, scrolled(line_table(plan, period))) for period in periods]
+    return drawn + [unfolded("Lines of this period as a table", *tables)]

@@ -1,5 +1,5 @@
-"""The verdict and the day as one page of HTML that needs nothing beside itself. All figures are texts and all pictures are made here, in whole
-numbers, for every zone and period; the page's script only chooses which of them are seen."""
+"""The verdict and the day as one page of HTML that needs nothing beside itself. All figures are texts and all pictures are made here, in
+whole numbers, for every zone and period; the page's script only chooses which of them are seen."""
 
 from base64 import b64encode
 from hashlib import sha256
@@ -19,7 +19,7 @@ BAR = 1000  # units of the bar that they make
 
 
 def write(pair, output):
-    put({output: text_of(pair).encode()})
+    put({output: text_of(pair).encode(errors="backslashreplace")})  # a name of a file can be any bytes
 
 
 def text_of(pair):
@@ -143,8 +143,9 @@ def section(name, title, *inside):
 
 def drawing_aids():
     """Arrows and the hatching, which the pictures name."""
-    arrows = [tag("marker", tag("path", d="M0 0L10 5L0 10z", class_=state or "plain"), id="arrow" + (f"-{state}" if state else ""), viewBox="0 0 10 10",
-                  refX=1, refY=5, markerWidth=17, markerHeight=17, markerUnits="userSpaceOnUse", orient="auto") for state in ("", "full", "beyond")]
+    arrows = [tag("marker", tag("path", d="M0 0L10 5L0 10z", class_=state or "plain"), id="arrow" + (f"-{state}" if state else ""),
+                  viewBox="0 0 10 10", refX=1, refY=5, markerWidth=17, markerHeight=17, markerUnits="userSpaceOnUse", orient="auto")
+              for state in ("", "full", "beyond")]
     hatch = tag("pattern", tag("path", d="M0 0V6", class_="stripe"), id="hatch", width=6, height=6, patternUnits="userSpaceOnUse",
                 patternTransform="rotate(45)")
     return svg(1, 1, tag("defs", *arrows, hatch), class_="aids", width=0, height=0, aria_hidden="true")
@@ -152,7 +153,8 @@ def drawing_aids():
 
 def foot(pair):
     files = [reading.file for reading in (pair.day, pair.clearing) if reading is not None]
-    return tag("footer", tag("p", "; ".join(f"{file.name}, {file.length} bytes" for file in files), "; ", tag("code", pair.verdict.line), "."),
+    lengths = "; ".join(f"{file.name}, {file.length} bytes" for file in files)
+    return tag("footer", tag("p", lengths, "; ", tag("code", pair.verdict.line), "."),
                tag("p", "The verdict is the checker's; this page shows what stands in the files."))
 
 
@@ -160,8 +162,8 @@ def positions_of(pair):
     """The net positions, and whose they are."""
     if pair.verdict.accepted:
         return pair.market.by_period([net for _, _, net in pair.verdict.nets]), "These are the checker's."
-    return pair.market.nets(), ("The checker gives none where it refuses; these are counted from the files by the paper's definition: what is "
-                                "sold less what is bought.")
+    return pair.market.nets(), ("The checker gives none where it refuses; these are counted from the files by the paper's definition: what "
+                                "is sold less what is bought.")
 
 
 def market_body(pair, account, script):
@@ -169,10 +171,10 @@ def market_body(pair, account, script):
     market, marks, colours = pair.market, marks_of(pair), heat.Heat(pair.market)
     zone, period = marks.first
     positions, source = positions_of(pair)
-    legend = tag("p", flag(), " marks the place that the checker names, in every picture that has it.", class_="note") if marks.cells else ""
+    legend = tag("p", flag(), " marks the place that the checker names, in every picture that has it.", class_="note")
     return tag(
         "body", drawing_aids(), verdict_part(pair, account), totals_part(pair), chooser(market, marks),
-        section("network", "Network", legend, *network.pictures(market, positions, marks, colours, period)),
+        section("network", "Network", legend if marks.cells else "", *network.pictures(market, positions, marks, colours, period)),
         section("prices", "Prices", *prices.pictures(market, marks, colours)),
         section("nets", "Net positions", tag("p", source, class_="note"), *nets.pictures(market, positions, marks, period)),
         section("merit", "Merit order", zone_buttons(market, marks), *merit.pictures(market, marks, marks.first)),

@@ -1,4 +1,4 @@
-"""The page of stored pairs, read back: the figures on it are the checker's, the place of a refusal is marked wherever it is and nowhere else.
+"""The page of stored pairs, read back: the figures are the checker's, and the place of a refusal is marked wherever it is and nowhere else.
 
 Every stored pair's page is made. All accepted ones are read back, and of each refusal number at most SOME, spread evenly over the pairs."""
 
@@ -108,7 +108,8 @@ def expected_cells(verdict, market):
     if verdict.number in (13, 15):
         return [(market.steps[one].zone, market.steps[one].period)], f"step {one}"
     if verdict.number in (17, 20):
-        return [(market.blocks[one].zone, period) for period, quantity in enumerate(market.blocks[one].quantity) if quantity], f"block {one}"
+        block = market.blocks[one]
+        return [(block.zone, period) for period in range(market.periods) if block.quantity[period]], f"block {one}"
     assert verdict.number == 21
     return [(market.blocks[one].zone, two)], f"block {one}"
 
@@ -121,8 +122,8 @@ def expected_places(verdict, market):
         both, when = f"{zone} {period}", (str(zone), str(period))
         if verdict.number not in (12, 16):
             places.append(("network", "data-node", both, None, str(period)))
-        places += [("prices", "data-price", both, None, None), ("nets", "data-bar", both, None, None), ("nets", "data-net", both, None, None),
-                   ("merit", "data-merit", both, *when)]
+        places += [("prices", "data-price", both, None, None), ("nets", "data-bar", both, None, None),
+                   ("nets", "data-net", both, None, None), ("merit", "data-merit", both, *when)]
         if order is not None:
             places += [("merit", "data-order", order, *when), ("merit", "data-row", order, *when)]
     places += [("periods", "data-pick-period", str(period), None, None) for period in {period for _, period in cells}]
@@ -197,8 +198,10 @@ class PageOfStoredPairs(unittest.TestCase):
 
     def check_nets(self, pair, seen, nets):
         for hook, values, digits in (("data-net", nets, 1), ("data-price", pair.market.price, 2)):
-            found = {attributes[hook]: (attributes["data-raw"], text.partition("\u00d7")[0]) for attributes, text in seen.kept if hook in attributes}
-            asked = {f"{zone} {period}": (str(raw), decimal(raw, digits)) for zone, row in enumerate(values) for period, raw in enumerate(row)}
+            found = {attributes[hook]: (attributes["data-raw"], text.partition("\u00d7")[0])
+                     for attributes, text in seen.kept if hook in attributes}
+            asked = {f"{zone} {period}": (str(raw), decimal(raw, digits))
+                     for zone, row in enumerate(values) for period, raw in enumerate(row)}
             self.assertEqual(found, asked)
 
     def check_shown(self, seen, pair, first):
@@ -219,13 +222,19 @@ class PageOfStoredPairs(unittest.TestCase):
 
 class PageItself(unittest.TestCase):
     def pair(self, wanted, name="day.bin"):
-        return next(pair_of(day, clearing, report, name) for day, clearing, report in stored.pairs() if report[0].startswith(f"verdict {wanted} "))
+        found = next(one for one in stored.pairs() if one[2][0].startswith(f"verdict {wanted} "))
+        return pair_of(*found, name)
 
     def test_names_are_escaped(self):
         for number in (0, 3, 14):
             text = page.text_of(self.pair(number, "<b>\"&'</b>.bin"))
             self.assertFalse("<b>\"" in text)
             self.assertTrue("&lt;b&gt;&quot;&amp;&#x27;&lt;/b&gt;.bin" in text)
+
+    def test_a_name_that_is_no_text_is_written(self):
+        with tempfile.TemporaryDirectory() as folder:
+            page.write(self.pair(0, "\udcff.bin"), str(Path(folder, "page.html")))
+            self.assertIn("\\udcff.bin", Path(folder, "page.html").read_text())
 
     def test_the_policy_names_the_style_and_the_script(self):
         text = page.text_of(self.pair(0))
