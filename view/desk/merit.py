@@ -17,6 +17,7 @@ NEAR = 2_000  # hundredths of a euro around the price that the axis has at least
 FAR = 6  # times as far as those nearer to the price: such a limit is cut
 ZERO_NEAR = 3  # the axis starts at 0 where that is not farther than so many times what it shows
 TICKS = 6
+APART = 8  # times the quantity of the other side: then each side has a scale of its own
 
 
 @dataclass(frozen=True)
@@ -85,7 +86,7 @@ def axis_of(price, orders):
     near = [order.limit for order in orders if abs(order.limit - price) <= radius] + [price]
     lowest, highest = min(near), max(near)
     margin = max(100, (highest - lowest) // 8)
-    if 0 <= lowest <= ZERO_NEAR * (highest - lowest):
+    if margin <= lowest <= ZERO_NEAR * (highest - lowest):
         return Axis(0, highest + margin)
     return Axis(lowest - margin, highest + margin)
 
@@ -174,12 +175,29 @@ def price_line(price, y):
                tag("text", said(price, PRICE), x=LEFT - 8, y=y + 4, text_anchor="end"), class_="price-line")
 
 
-def side_drawn(orders, side, axis, price, marked, most_orders, most_quantity):
-    mine = [order for order in orders if order.side == side]
-    under, over = bars(mine, axis, marked, most_orders, most_quantity)
-    y, quantity = axis.y(price), sum(order.quantity for order in mine)
-    words = f"{SIDE.words[side]}s: {with_unit(sum(order.accepted for order in mine), VOLUME)} accepted of {with_unit(quantity, VOLUME)}"
-    foot = tag("text", words if mine else f"no {SIDE.words[side]}s", x=LEFT, y=HEIGHT - 10, class_="foot")
+def scales(sides):
+    """For each side the number of orders and the quantity that its width stands for: the greater of both sides, as long as these are
+    not too far apart."""
+    own = [(len(side), whole_quantity(side)) for side in sides]
+    less, more = sorted(quantity for _, quantity in own)
+    if 0 < APART * less < more:
+        return own
+    return [(max(number for number, _ in own), more)] * len(sides)
+
+
+def whole_quantity(orders):
+    return sum(order.quantity for order in orders)
+
+
+def side_drawn(mine, side, axis, price, marked, scale, together):
+    """The bars of a side, the price across them, and what they come to."""
+    under, over = bars(mine, axis, marked, *scale)
+    y = axis.y(price)
+    words = f"no {SIDE.words[side]}s"
+    if mine:
+        accepted = sum(order.accepted for order in mine)
+        words = f"{SIDE.words[side]}s: {with_unit(accepted, VOLUME)} accepted of {with_unit(whole_quantity(mine), VOLUME)}"
+    foot = tag("text", words if together else f"{words} (own scale)", x=LEFT, y=HEIGHT - 10, class_="foot")
     return svg(WIDTH, HEIGHT, *grid(axis, y), *under, price_line(price, y), *over, foot, role="img", aria_label=words, class_="merit")
 
 
@@ -193,9 +211,11 @@ def picture(market, orders, marks, zone, period):
     if orders:
         axis = axis_of(price, orders)
         sides = [[order for order in orders if order.side == side] for side in (SELL, BUY)]
-        scale = max(map(len, sides)), max(sum(order.quantity for order in side) for side in sides)
+        own = scales(sides)
         marked = marked_order(marks, (zone, period))
-        shown = tag("div", *(side_drawn(orders, side, axis, price, marked, *scale) for side in (SELL, BUY)), class_="sides")
+        drawn = [side_drawn(mine, side, axis, price, marked, scale, own[SELL] == own[BUY])
+                 for side, mine, scale in zip((SELL, BUY), sides, own)]
+        shown = tag("div", *drawn, class_="sides")
     else:
         shown = nothing()
     return tag("figure", caption, shown, class_="place" if place else None, data_merit=f"{zone} {period}")
@@ -208,8 +228,8 @@ def nothing():
 def legend():
     words = [f"{side}, {state}" for side in SIDE.words for state in ("accepted", "left")]
     keys = [tag("span", tag("span", "", class_=f"key {one.replace(',', '')}"), f" {one}", class_="keyed") for one in words]
-    return tag("p", *keys, "Hatched: a block. A bar is as wide as its quantity, with a least width; one with a break goes on beyond the axis.",
-               class_="note")
+    return tag("p", *keys, "Hatched: a block. A bar is as wide as its quantity, with a least width; one with a break goes on beyond the "
+               "axis.", class_="note")
 
 
 def order_table(orders, marked):

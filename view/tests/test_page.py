@@ -13,7 +13,7 @@ from html.parser import HTMLParser
 from pathlib import Path
 
 import stored
-from desk import checker, page
+from desk import checker, marks, merit, network, page
 from desk.explain import account_of
 from desk.files import File
 from desk.layout import TOTALS
@@ -50,6 +50,8 @@ class Seen(HTMLParser):
             self.place(tag, dict(pairs), WORDS)
 
     def look(self, tag, attributes):
+        if tag == "body":
+            self.body = attributes
         if "id" in attributes:
             if attributes["id"] in self.ids:
                 self.wrong.append(f"id {attributes['id']} is there twice")
@@ -208,6 +210,7 @@ class PageOfStoredPairs(unittest.TestCase):
         """All pictures are there, and those of the first choice are seen."""
         self.assertTrue(set(PICTURES) <= seen.ids)
         zone, period = map(str, first)
+        self.assertEqual((seen.body["data-zone"], seen.body["data-period"]), (zone, period))
         self.assertEqual({one for one in seen.shown if one[0] == "merit"}, {("merit", zone, period)})
         self.assertEqual({(when_zone, when) for _, when_zone, when in seen.shown if when_zone is None}, {(None, period)})
 
@@ -218,6 +221,61 @@ class PageOfStoredPairs(unittest.TestCase):
         byte = account_of(pair).fact_of(FAULT_FACT[pair.verdict.number]).raw
         self.assertTrue(f"{WORDS}, at byte {byte}." in text)
         self.assertEqual(len(re.findall(r"data-map=", text)), 1 if pair.clearing is None else 2)
+
+
+class Pictures(unittest.TestCase):
+    """Pictures of the rule paper's day A, and of some orders, against what can be said of them beforehand."""
+
+    @classmethod
+    def setUpClass(cls):
+        folder = stored.ROOT / "samples" / "accepted"
+        files = [(folder / name).read_bytes() for name in ("day.bin", "clearing.bin")]
+        cls.pair = pair_of(*files, (folder / "verdict").read_text().splitlines())
+        cls.text = page.text_of(cls.pair)
+
+    def part(self, name, mark):
+        """The first element of that name with that mark, as text."""
+        return re.search(rf"(?s)<{name} [^>]*{mark}.*?</{name}>", self.text).group()
+
+    def test_the_network_says_what_it_carries(self):
+        line = self.part("g", 'data-line="0 0"')
+        self.assertIn(">50.0 of 50.0 MW<", line)
+        self.assertIn(">full<", line)
+        self.assertIn("exports 50.0 MW", self.part("g", 'data-node="0 0"'))
+        self.assertIn("imports 50.0 MW", self.part("g", 'data-node="1 0"'))
+        self.assertIn('marker-end="url(#arrow-full)"', self.text)
+
+    def test_a_bar_is_as_wide_as_its_quantity_and_solid_as_far_as_accepted(self):
+        def widths(order):
+            bar = self.part("g", f'data-order="{order}"')
+            return {name: int(width) for width, name in re.findall(r'width="([0-9]+)" class="(rest|done|hatch)"', bar)}
+        sells, buys = widths("step 0"), widths("step 1")
+        self.assertLessEqual(abs(10 * sells["done"] - 9 * sells["rest"]), 10)
+        self.assertEqual(buys["done"], buys["rest"])
+        self.assertLessEqual(abs(5 * buys["rest"] - 2 * sells["rest"]), 15)
+        self.assertEqual(set(widths("block 0")), {"rest", "hatch"})
+
+    def test_a_part_is_never_drawn_as_all_or_nothing(self):
+        for accepted, solid in ((0, 0), (1, 1), (500_000, 50), (999_999, 99), (1_000_000, 100), (1_000_001, 100)):
+            order = merit.Order("step", 0, 0, 5_000, 1_000_000, accepted)
+            self.assertEqual(merit.solid_part(order, 100), solid)
+
+    def test_limits_far_away_are_cut(self):
+        near = [merit.Order("step", row, row % 2, 3_000 + 500 * row, 10, 0) for row in range(9)]
+        far = [merit.Order("step", 9, 1, 1_000_000, 10, 10), merit.Order("step", 10, 0, -1_000_000, 10, 10)]
+        axis = merit.axis_of(5_000, near + far)
+        self.assertTrue(-2_000 <= axis.lowest < 3_000 and 7_000 < axis.highest <= 12_000)
+        self.assertEqual([axis.y(order.limit) for order in far], [merit.TOP, merit.BOTTOM])
+        heights = [axis.y(order.limit) for order in near]
+        self.assertEqual(heights, sorted(set(heights), reverse=True))
+        self.assertGreater(merit.axis_of(5_000, far).highest, 1_000_000)
+
+    def test_labels_of_a_network_never_lie_on_one_another(self):
+        for day, clearing, report in stored.pairs()[::7]:
+            pair = pair_of(day, clearing, report)
+            if pair.market is not None and pair.market.lines:
+                plan = network.Plan(pair.market, pair.market.nets(), marks.marks_of(pair))
+                self.assertFalse(plan.crowded())
 
 
 class PageItself(unittest.TestCase):
