@@ -31,6 +31,8 @@ TAIL, HEAD = 4, 19  # free units between a zone and its end of a line, without a
 ROUNDS = 3  # of finding better places for the labels
 STRETCHES = range(100, 221, 15)  # hundredths of the least room that are tried, until no label lies on another
 MARGIN = 14
+LEGEND = ("An arrow points where the flow goes; a dotted line has none. A label has the flow and the capacity in its direction. Full: it carries "
+          "all that it can that way. Closed: it can carry nothing that way. Beyond: more than it can.")
 
 
 # ---- geometry
@@ -331,4 +333,4 @@ def pictures(market, nets, marks, heat, shown):
     if not market.lines:
         return drawn + [tag("p", "The day has no lines.", class_="note")]
     tables = [choice(period, scrolled(line_table(plan, period))) for period in periods]
-    return drawn + [unfolded("Lines of this period as a table", *tables)]
+    return drawn + [tag("p", LEGEND, class_="note"), unfolded("Lines of this period as a table", *tables)]

@@ -31,12 +31,27 @@
     }
   }
 
+  // scrolls what is narrower than its inside, so that the element is in its middle
+  function centre(box, element) {
+    if (box && element) {
+      var outer = box.getBoundingClientRect(), inner = element.getBoundingClientRect();
+      box.scrollLeft += inner.left + inner.width / 2 - outer.left - outer.width / 2;
+    }
+  }
+
+  function centreAll() {
+    var network = document.querySelector("#network > :not([hidden]) > .scroll");
+    centre(periods, button(chosen.period));
+    centre(document.querySelector("#prices .scroll"), document.querySelector("#prices thead .in-period"));
+    centre(network, network.querySelector(".place") || network.querySelector(".in-zone"));
+  }
+
   function draw() {
     pictures.forEach(show);
     places.forEach(highlight);
+    centreAll();
     document.getElementById("period").textContent = chosen.period;
     var current = button(chosen.period);
-    periods.scrollLeft = current.offsetLeft - periods.offsetLeft - (periods.clientWidth - current.offsetWidth) / 2;
     document.getElementById("previous").disabled = !current.previousElementSibling;
     document.getElementById("next").disabled = !current.nextElementSibling;
   }
@@ -89,6 +104,7 @@
     event.preventDefault();
   });
   window.addEventListener("hashchange", fromLink);
+  window.addEventListener("resize", centreAll);
 
   body.classList.remove("still");
   fromLink();
