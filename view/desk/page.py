@@ -92,7 +92,7 @@ def tile(total, raw):
     number = tag("span", grouped(said(raw, total.unit)), class_="figure", data_total=total.name, data_raw=raw)
     return tag("div", tag("h3", total.name, tag("i", "", class_=classes("key", total.name)) if total.name in PARTS else ""),
                tag("p", number, " ", tag("span", total.unit.name, class_="unit"), class_="amount"),
-               tag("p", f"{raw} in the statement", class_="raw"), tag("p", total.meaning, class_="meaning"),
+               tag("p", f"{raw} in the statement", class_="raw"), tag("p", total.meaning[0].upper() + total.meaning[1:], class_="meaning"),
                class_=classes("tile", "first" if total is TOTALS[0] else ""))
 
 

@@ -1,4 +1,4 @@
-"""On all stored files: from what `show` prints the bytes can be written again, up to the fault, and its mark stands where the checker says."""
+"""On all stored files: from what `show` prints the bytes can be written again, up to the fault; its mark is where the checker says."""
 
 import re
 import struct

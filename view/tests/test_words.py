@@ -104,7 +104,7 @@ class Words(unittest.TestCase):
         self.unable("needs DAY and CLEARING", "explain", day)
         self.unable("No such file", "page", day, none, "-o", self.folder / "a.html")
         self.unable("No such file", "page", day, clearing, "-o", none / "a.html")
-        self.unable("Is a directory", "page", day, clearing, "-o", self.folder)
+        self.unable("a folder or a device stands there", "page", day, clearing, "-o", self.folder)
         self.unable("section 6", "show", day, "--section", 6)
         self.unable("section 0", "show", day, "--section", 0)
         self.unable("row 4", "show", day, "--section", 4, "--row", 4)
