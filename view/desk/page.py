@@ -24,8 +24,8 @@ def write(pair, output):
 
 def text_of(pair):
     """The whole page."""
-    style = (FOLDER / "page.css").read_text() + heat.rules()
-    script = (FOLDER / "page.js").read_text()
+    style = (FOLDER / "page.css").read_text("utf-8") + heat.rules()
+    script = (FOLDER / "page.js").read_text("utf-8")
     account = account_of(pair)
     head = tag("head", tag("meta", charset="utf-8"),
                tag("meta", http_equiv="Content-Security-Policy", content=policy(style, script)),
@@ -114,7 +114,7 @@ def value_bar(totals):
 
 def chooser(market, marks):
     """The bar that stays in sight: a button for each period, and those before and behind the chosen one."""
-    zone, shown = marks.first
+    shown = marks.first[1]
     buttons = [tag("button", period, sign() if period in marks.periods else "", type="button", data_pick_period=period,
                    aria_pressed="true" if period == shown else "false",
                    class_=classes("in-period" if period == shown else "", "place" if period in marks.periods else ""))
@@ -184,5 +184,6 @@ def market_body(pair, account, script):
 
 def fault_body(pair, account):
     """The body of a pair of which a file does not read: there is no whole day or clearing to draw."""
-    legend = tag("p", "A file does not read, so there is no market to draw: a picture of half a file would mislead.", class_="note")
+    legend = tag("p", "A file does not read, so there are no totals and there is no market to draw: a picture of half a file would mislead.",
+                 class_="note")
     return tag("body", verdict_part(pair, account), section("bytes", "Where the fault is", legend, *filemap.pictures(pair)), foot(pair))

@@ -292,7 +292,7 @@ class PageItself(unittest.TestCase):
     def test_a_name_that_is_no_text_is_written(self):
         with tempfile.TemporaryDirectory() as folder:
             page.write(self.pair(0, "\udcff.bin"), str(Path(folder, "page.html")))
-            self.assertIn("\\udcff.bin", Path(folder, "page.html").read_text())
+            self.assertIn("\\udcff.bin", Path(folder, "page.html").read_text("utf-8"))
 
     def test_the_policy_names_the_style_and_the_script(self):
         text = page.text_of(self.pair(0))
