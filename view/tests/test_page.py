@@ -19,7 +19,7 @@ from desk.files import File
 from desk.layout import TOTALS
 from desk.pair import take_apart
 
-SOME = 40
+SOME = 25
 WORDS = "refused here"
 PICTURES = ("network", "prices", "nets", "merit", "blocks")
 HOOKS = ("data-node", "data-line", "data-price", "data-bar", "data-net", "data-merit", "data-order", "data-row", "data-block",
