@@ -3,12 +3,12 @@
 from .layout import ENERGY, MONEY, PRICE, SHARE, SIDE, VOLUME
 from .marks import flag
 from .market import WHOLE
-from .markup import scrolled, svg, table, tag
+from .markup import heads, scrolled, svg, table, tag
 from .numbers import grouped, said, with_unit
 
 TALL, WIDE = 24, 48  # units of a strip; with many periods it is wider
-HEAD = ("block", "zone", "side", "limit, \u20ac/MWh", "whole quantity, MWh", "least ratio", "ratio", "quantity by period", "income, \u20ac",
-        "limit times quantity, \u20ac", "gain, \u20ac", "in the shortfall, \u20ac")
+HEAD = heads("block", "zone", "side", ("limit", PRICE), ("whole quantity", ENERGY), "least ratio", "ratio", "quantity by period",
+             ("income", MONEY), ("limit times quantity", MONEY), ("gain", MONEY), ("in the shortfall", MONEY))
 WORDS = ("Income, limit times quantity and gain are those of the whole block at the stated prices; the gain is what a sell block gets "
          "above its limit, or a buy block pays below it. What counts in the shortfall is the gain of what is left unaccepted, where that "
          "is above zero.")

@@ -63,5 +63,10 @@ def table(head, rows, class_=None, **attributes):
     return tag("table", heads, body, class_=class_, **attributes)
 
 
+def heads(*columns):
+    """The heads of columns: a name, or a name and the unit of what stands below it."""
+    return [column if isinstance(column, str) else f"{column[0]}, {column[1].name}" if column[1].name else column[0] for column in columns]
+
+
 def unfolded(words, *inside):
     return tag("details", tag("summary", words), *inside)

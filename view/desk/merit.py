@@ -7,7 +7,7 @@ from .explain import VERB
 from .layout import PRICE, SIDE, VOLUME
 from .marks import FLAG_WIDTH, flag, sign, svg_flag
 from .market import BUY, SELL
-from .markup import classes, scrolled, svg, table, tag, unfolded, wide
+from .markup import classes, heads, scrolled, svg, table, tag, unfolded, wide
 from .numbers import said, with_unit
 
 WIDTH, HEIGHT = 500, 300
@@ -240,7 +240,8 @@ def order_table(orders, marked):
         cells += [said(number, VOLUME) for number in (order.quantity, order.accepted, order.quantity - order.accepted)]
         rows.append(tag("tr", *(one if one.startswith("<td") else tag("td", one) for one in cells), class_="place" if place else None,
                         data_row=order.name))
-    return scrolled(table(("order", "side", "limit, \u20ac/MWh", "quantity, MW", "accepted, MW", "left, MW"), rows, class_="exact"))
+    head = heads("order", "side", ("limit", PRICE), ("quantity", VOLUME), ("accepted", VOLUME), ("left", VOLUME))
+    return scrolled(table(head, rows, class_="exact"))
 
 
 def pictures(market, marks, shown):

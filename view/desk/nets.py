@@ -26,7 +26,7 @@ def cell(market, marks, zone, period, net, greatest):
                data_bar=f"{zone} {period}", data_pick_period=period, data_pick_zone=zone)
 
 
-def heads(market, marks):
+def period_heads(market, marks):
     """A head for each period."""
     return [tag("th", period, sign() if period in marks.periods else "", data_pick_period=period, scope="col")
             for period in range(market.periods)]
@@ -48,10 +48,10 @@ def chart(market, nets, marks, shown):
     for zone, row in enumerate(nets):
         cells = [cell(market, marks, zone, period, net, greatest) for period, net in enumerate(row)]
         rows.append(tag("tr", zone_head(market, zone, *chosen_net(row, shown)), *cells))
-    scale = tag("p", f"All strips have one scale: a bar of full height is {grouped(said(greatest, VOLUME))} MW. ",
+    scale = tag("p", f"All strips have one scale: a bar of full height is {grouped(with_unit(greatest, VOLUME))}. ",
                 tag("span", "\u25b2 above the line: exports", class_="export"), ", ",
                 tag("span", "\u25bc below it: imports", class_="import"), ".", class_="note")
-    head = [tag("th", "zone", scope="col"), *heads(market, marks)]
+    head = [tag("th", "zone", scope="col"), *period_heads(market, marks)]
     return [table(head, rows, class_=classes("strips", "few" if market.periods <= FEW else "")), scale]
 
 
@@ -63,8 +63,8 @@ def numbers(market, nets, marks):
                    data_raw=net, data_pick_period=period, data_pick_zone=zone)
     rows = [tag("tr", zone_head(market, zone), *(number(zone, period, net) for period, net in enumerate(nets[zone])))
             for zone in range(market.zones)]
-    return scrolled(table([tag("th", "zone", scope="col"), *heads(market, marks)], rows, class_="grid"))
+    return scrolled(table([tag("th", "zone", scope="col"), *period_heads(market, marks)], rows, class_="grid"))
 
 
 def pictures(market, nets, marks, shown):
-    return chart(market, nets, marks, shown) + [unfolded("Net positions as a table, in MW", numbers(market, nets, marks))]
+    return chart(market, nets, marks, shown) + [unfolded(f"Net positions as a table, in {VOLUME.name}", numbers(market, nets, marks))]

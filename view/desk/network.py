@@ -8,7 +8,7 @@ from typing import Tuple
 
 from .layout import PRICE, VOLUME
 from .marks import FLAG_WIDTH, svg_flag
-from .markup import classes, scrolled, svg, table, tag, unfolded, wide
+from .markup import classes, heads, scrolled, svg, table, tag, unfolded, wide
 from .numbers import said, with_unit
 
 # where zones stand, in thousandths of the two radii, and these radii, by the number of zones
@@ -31,8 +31,8 @@ TAIL, HEAD = 4, 19  # free units between a zone and its end of a line, without a
 ROUNDS = 3  # of finding better places for the labels
 STRETCHES = range(100, 221, 15)  # hundredths of the least room that are tried, until no label lies on another
 MARGIN = 14
-LEGEND = ("An arrow points where the flow goes; a dotted line has none. A label has the flow and the capacity in its direction. Full: it carries "
-          "all that it can that way. Closed: it can carry nothing that way. Beyond: more than it can.")
+LEGEND = ("An arrow points where the flow goes; a dotted line has none. A label has the flow and the capacity in its direction. Full: it "
+          "carries all that it can that way. Closed: it can carry nothing that way. Beyond: more than it can.")
 
 
 # ---- geometry
@@ -313,7 +313,8 @@ def picture(plan, period, heat):
 
 
 def line_table(plan, period):
-    market, head = plan.market, ("line", "from", "to", "flow, MW", "forward capacity, MW", "back capacity, MW", "")
+    market = plan.market
+    head = heads("line", "from", "to", ("flow", VOLUME), ("forward capacity", VOLUME), ("back capacity", VOLUME), "")
     rows = []
     for line in market.lines:
         cells = [line.row, f"{line.start} (code {market.codes[line.start]})", f"{line.end} (code {market.codes[line.end]})"]

@@ -10,7 +10,7 @@ from .explain import account_of
 from .files import put
 from .layout import TOTALS
 from .marks import flag, marks_of, sign
-from .markup import Markup, classes, scrolled, svg, table, tag, unfolded
+from .markup import Markup, classes, heads, scrolled, svg, table, tag, unfolded
 from .numbers import grouped, said, with_unit
 
 FOLDER = Path(__file__).parent
@@ -24,8 +24,8 @@ def write(pair, output):
 
 def text_of(pair):
     """The whole page."""
-    style = (FOLDER / "page.css").read_text() + heat.rules()
-    script = (FOLDER / "page.js").read_text()
+    style = (FOLDER / "page.css").read_text("utf-8") + heat.rules()
+    script = (FOLDER / "page.js").read_text("utf-8")
     account = account_of(pair)
     head = tag("head", tag("meta", charset="utf-8"),
                tag("meta", http_equiv="Content-Security-Policy", content=policy(style, script)),
@@ -68,9 +68,8 @@ def account_part(account):
         raw = "whole number" if any(fact.text for fact in account.facts) else ""
         parts.append(scrolled(table(("", "", raw, ""), [fact_row(fact) for fact in account.facts], class_="facts")))
     for one in account.tables:
-        head = [f"{name}, {unit.name}" if unit.name else name for name, unit in one.columns]
         rows = [[said(raw, unit) for raw, (_, unit) in zip(row, one.columns)] for row in one.rows]
-        parts += [tag("h3", one.title), scrolled(table(head, rows, class_="exact"))]
+        parts += [tag("h3", one.title), scrolled(table(heads(*one.columns), rows, class_="exact"))]
     return parts + [tag("p", sentence) for sentence in account.so]
 
 
@@ -114,7 +113,7 @@ def value_bar(totals):
 
 def chooser(market, marks):
     """The bar that stays in sight: a button for each period, and those before and behind the chosen one."""
-    zone, shown = marks.first
+    shown = marks.first[1]
     buttons = [tag("button", period, sign() if period in marks.periods else "", type="button", data_pick_period=period,
                    aria_pressed="true" if period == shown else "false",
                    class_=classes("in-period" if period == shown else "", "place" if period in marks.periods else ""))
@@ -184,5 +183,6 @@ def market_body(pair, account, script):
 
 def fault_body(pair, account):
     """The body of a pair of which a file does not read: there is no whole day or clearing to draw."""
-    legend = tag("p", "A file does not read, so there is no market to draw: a picture of half a file would mislead.", class_="note")
+    legend = tag("p", "A file does not read, so there are no totals and no market to draw: a picture of half a file would mislead.",
+                 class_="note")
     return tag("body", verdict_part(pair, account), section("bytes", "Where the fault is", legend, *filemap.pictures(pair)), foot(pair))

@@ -3,7 +3,7 @@
 from .layout import PRICE
 from .marks import sign
 from .markup import classes, scrolled, table, tag
-from .nets import heads, zone_head
+from .nets import period_heads, zone_head
 from .numbers import said, with_unit
 
 
@@ -25,4 +25,4 @@ def scale(heat):
 def pictures(market, marks, heat):
     rows = [tag("tr", zone_head(market, zone), *(cell(market, marks, heat, zone, period) for period in range(market.periods)))
             for zone in range(market.zones)]
-    return [scrolled(table([tag("th", "zone", scope="col"), *heads(market, marks)], rows, class_="grid prices")), scale(heat)]
+    return [scrolled(table([tag("th", "zone", scope="col"), *period_heads(market, marks)], rows, class_="grid prices")), scale(heat)]

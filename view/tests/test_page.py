@@ -19,7 +19,7 @@ from desk.files import File
 from desk.layout import TOTALS
 from desk.pair import take_apart
 
-SOME = 40
+SOME = 25
 WORDS = "refused here"
 PICTURES = ("network", "prices", "nets", "merit", "blocks")
 HOOKS = ("data-node", "data-line", "data-price", "data-bar", "data-net", "data-merit", "data-order", "data-row", "data-block",
@@ -292,7 +292,7 @@ class PageItself(unittest.TestCase):
     def test_a_name_that_is_no_text_is_written(self):
         with tempfile.TemporaryDirectory() as folder:
             page.write(self.pair(0, "\udcff.bin"), str(Path(folder, "page.html")))
-            self.assertIn("\\udcff.bin", Path(folder, "page.html").read_text())
+            self.assertIn("\\udcff.bin", Path(folder, "page.html").read_text("utf-8"))
 
     def test_the_policy_names_the_style_and_the_script(self):
         text = page.text_of(self.pair(0))
