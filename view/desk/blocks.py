@@ -43,13 +43,13 @@ def ratio_bar(block):
 def row(market, marks, block):
     place = marks.block == block.row
     least = said(block.least_allowed, SHARE) + (" (0 in the file)" if block.least == 0 else "")
-    money = [grouped(said(amount, MONEY))
-             for amount in (market.income(block), market.at_limit(block), market.gain(block), market.shortfall(block))]
+    money = {"income": market.income(block), "limit times quantity": market.at_limit(block), "gain": market.gain(block),
+             "in the shortfall": market.shortfall(block)}
     cells = [tag("th", block.row, " ", flag() if place else "", scope="row"),
              tag("td", tag("b", market.codes[block.zone]), tag("small", f" zone {block.zone}")), tag("td", SIDE.words[block.side]),
              tag("td", said(block.limit, PRICE)), tag("td", grouped(said(sum(block.quantity), ENERGY))), tag("td", least),
              tag("td", said(block.ratio, SHARE), " ", ratio_bar(block)), tag("td", strip(block, marks.block_period if place else None)),
-             *(tag("td", amount) for amount in money)]
+             *(tag("td", grouped(said(raw, MONEY)), data_amount=f"{block.row} {name}", data_raw=raw) for name, raw in money.items())]
     return tag("tr", *cells, class_="place" if place else None, data_block=block.row)
 
 

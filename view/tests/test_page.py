@@ -13,6 +13,8 @@ from html.parser import HTMLParser
 from pathlib import Path
 
 import stored
+from plain import Plain
+
 from desk import checker, marks, merit, network, page
 from desk.explain import account_of
 from desk.files import File
@@ -56,6 +58,8 @@ class Seen(HTMLParser):
             if attributes["id"] in self.ids:
                 self.wrong.append(f"id {attributes['id']} is there twice")
             self.ids.add(attributes["id"])
+        if "heat" in (attributes.get("class") or "").split() and not re.search(r"heat( below b| a)[0-9]+( |$)", attributes["class"]):
+            self.wrong.append(f"class={attributes['class']}")
         for name, value in attributes.items():
             if name in GEOMETRY and not re.fullmatch(r"[-0-9 MHVLQhvlz]*", value) and "device" not in value:
                 self.wrong.append(f"{name}={value} in {tag}")
@@ -177,6 +181,7 @@ class PageOfStoredPairs(unittest.TestCase):
             self.check_fault(pair, seen, text)
         elif pair.verdict.accepted:
             self.check_figures(pair, report, seen)
+            self.check_blocks(pair, seen)
             self.assertEqual(seen.places, [])
             self.check_shown(seen, pair, (0, 0))
         else:
@@ -205,6 +210,20 @@ class PageOfStoredPairs(unittest.TestCase):
             asked = {f"{zone} {period}": (str(raw), decimal(raw, digits))
                      for zone, row in enumerate(values) for period, raw in enumerate(row)}
             self.assertEqual(found, asked)
+
+    def check_blocks(self, pair, seen):
+        """What the table says of each block is counted once more, from the bytes."""
+        plain, asked = Plain(pair.day.file.data, pair.clearing.file.data), {}
+        for row, ((zone, side, _, limit, *quantities), (ratio,)) in enumerate(zip(plain.blocks, plain.ratios)):
+            sign, prices = 1 - 2 * side, [plain.price(zone, hour) for hour in range(plain.hours)]
+            left = sum((quantity - quantity * ratio // 1000) * (price - limit) for quantity, price in zip(quantities, prices))
+            income, whole = sum(map(int.__mul__, quantities, prices)), limit * sum(quantities)
+            for name, raw in (("income", income), ("limit times quantity", whole), ("gain", sign * (income - whole)),
+                              ("in the shortfall", max(0, sign * left))):
+                asked[f"{row} {name}"] = (str(raw), decimal(raw, 3))
+        found = {attributes["data-amount"]: (attributes["data-raw"], text.replace("\u202f", ""))
+                 for attributes, text in seen.kept if "data-amount" in attributes}
+        self.assertEqual(found, asked)
 
     def check_shown(self, seen, pair, first):
         """All pictures are there, and those of the first choice are seen."""
