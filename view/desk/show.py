@@ -147,15 +147,18 @@ def hexed(data):
 
 
 def lines_of_rest(reading):
-    """Where the file ends too soon, or goes on behind its last section."""
-    data, fault = reading.file.data, reading.fault
-    rest = data[reading.end:]
-    if fault is not None and fault.number == reading.kind.ends or reading.flaw and "ends inside" in reading.flaw:
+    """Where the file ends too soon or goes on behind its last section, and the bytes there that are in no field."""
+    data, kind, number = reading.file.data, reading.kind, reading.fault.number if reading.fault is not None else None
+    if reading.flaw is not None:
+        lines = [f"{MARK} {reading.flaw}"]
+    elif number == kind.ends:
         lines = [f"{MARK} the file ends here, at {len(data)}, inside section {reading.parts[-1].section.number}"]
-        return lines + ([f"   its last bytes, from {reading.end}, make no field: {hexed(rest)}"] if rest else [])
-    if fault is not None and fault.number == reading.kind.trails or reading.flaw and "behind" in reading.flaw:
-        return [f"{MARK} bytes behind the last section, from {reading.end} to {reading.file.length}: {hexed(rest)}"]
-    return []
+    elif number == kind.trails:
+        lines = [f"{MARK} the last section ends here, at {reading.end}, and the file does not"]
+    else:
+        return []
+    rest = data[reading.end:]
+    return lines + ([f"   in no field, from {reading.end} to {reading.file.length}: {hexed(rest)}"] if rest else [])
 
 
 def head_of_file(reading, verdict):

@@ -72,7 +72,7 @@ class ShownAgain(unittest.TestCase):
         lines = show.lines_of(reading, verdict)
         shown = Shown(lines, forms)
         fault = verdict.number if verdict is not None and verdict.number in kind.faults else 0
-        tail = [line for line in lines if line.startswith((">> ", "   its last bytes"))]
+        tail = [line for line in lines if line.startswith((">> ", "   in no field"))]
         if fault == 0:
             self.assertEqual(shown.data, data)
             self.assertEqual((shown.marks, tail), ([], []))
@@ -88,8 +88,8 @@ class ShownAgain(unittest.TestCase):
         elif fault == kind.misfits:
             self.assertEqual((shown.marks, tail), ([verdict.place], []))
         else:
-            self.assertEqual(len(tail), 1)
-            self.assertIn(f"from {len(shown.data)} to {len(data)}: {data[len(shown.data):][:16].hex(' ')}", tail[0])
+            self.assertEqual(len(tail), 2)
+            self.assertIn(f"from {len(shown.data)} to {len(data)}: {data[len(shown.data):][:16].hex(' ')}", tail[1])
         return reading
 
     def test_stored_files(self):
