@@ -1,6 +1,5 @@
 """Runs the checker. What it says is the verdict; nothing here or above adds one."""
 
-import shutil
 import struct
 import subprocess
 import tempfile
@@ -42,18 +41,16 @@ def program(name, folder=None):
 
 def run(path, files):
     """What the program prints in a folder that holds these files alone."""
-    folder = tempfile.mkdtemp(prefix="ayinzhad-")
     try:
-        for name, data in files.items():
-            Path(folder, name).write_bytes(data)
-        done = subprocess.run([str(ROOT / "tools" / "run"), path], cwd=folder, stdin=subprocess.DEVNULL, capture_output=True,
-                              timeout=PATIENCE)
+        with tempfile.TemporaryDirectory(prefix="ayinzhad-") as folder:
+            for name, data in files.items():
+                Path(folder, name).write_bytes(data)
+            done = subprocess.run([str(ROOT / "tools" / "run"), path], cwd=folder, stdin=subprocess.DEVNULL, capture_output=True,
+                                  timeout=PATIENCE)
     except OSError as error:
-        raise Unable(f"{path}: {error.strerror}")
+        raise Unable(f"{path}: could not be run: {error.strerror}")
     except subprocess.TimeoutExpired:
         raise Unable(f"{path}: no verdict within {PATIENCE} seconds")
-    finally:
-        shutil.rmtree(folder, ignore_errors=True)
     if done.returncode != 0:
         raise Unable(f"{path}: ended with status {done.returncode}")
     return done.stdout.decode("ascii", "replace").splitlines()

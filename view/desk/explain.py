@@ -7,7 +7,7 @@ from .files import first_misfit
 from .layout import CLEARING, DAY, ENERGY, MONEY, PLAIN, PRICE, SHARE, SIDE, TOTALS, VOLUME, asked, statement_length
 from .market import BUY, SELL, WHOLE
 from .numbers import said, with_unit
-from .paper import NUMBERS, place_words
+from .paper import NUMBERS, named
 
 VERB = {SELL: "sells", BUY: "buys"}
 
@@ -20,8 +20,7 @@ def account_of(pair):
         account = Account("Accepted.", verdict.line, number.says)
         of_accepted(account, pair)
         return account
-    place = place_words(verdict, pair.market)
-    account = Account(f"Refused: {verdict.number}, {number.name}{', at ' + place if place else ''}.", verdict.line, number.says)
+    account = Account(f"Refused: {verdict.number}, {named(verdict, pair.market)}.", verdict.line, number.says)
     EXPLAINED[verdict.number](account, pair)
     return account
 
@@ -154,33 +153,28 @@ def of_quantity(account, pair):
 
 
 def of_balance(account, pair):
+    """The sums first, then what they are made of."""
     market, (zone, period, _) = pair.market, pair.verdict.place
     account.title = f"In {zone_words(market, zone)}, period {period}"
-    sums = {}
-    for side, verb in ((SELL, "sold"), (BUY, "bought")):
-        steps, blocks = market.by_steps(side, zone, period), market.by_blocks(side, zone, period)
-        account.fact(f"{verb} by steps", steps, VOLUME)
-        account.fact(f"{verb} by blocks", blocks, VOLUME)
-        sums[side] = steps + blocks
-    leaves = enters = 0
+    parts = {"sold": [], "bought": [], "leaves": [], "enters": []}
+    for side, word in ((SELL, "sold"), (BUY, "bought")):
+        parts[word] += [("steps", market.by_steps(side, zone, period), ""), ("blocks", market.by_blocks(side, zone, period), "")]
     for line in market.lines:
-        flow = line.flow[period]
         if line.start == zone:
-            leaves += flow
-            account.fact(f"leaves by line {line.row}", flow, VOLUME, f"to {zone_words(market, line.end)}")
+            parts["leaves"].append((f"line {line.row}", line.flow[period], f"to {zone_words(market, line.end)}"))
         elif line.end == zone:
-            enters += flow
-            account.fact(f"enters by line {line.row}", flow, VOLUME, f"from {zone_words(market, line.start)}")
-    account.fact("sold", sums[SELL], VOLUME)
-    account.fact("bought", sums[BUY], VOLUME)
-    account.fact("leaves", leaves, VOLUME)
-    account.fact("enters", enters, VOLUME)
-    net = sums[SELL] - sums[BUY]
+            parts["enters"].append((f"line {line.row}", line.flow[period], f"from {zone_words(market, line.start)}"))
+    sums = {word: sum(volume for _, volume, _ in made) for word, made in parts.items()}
+    for word, total in sums.items():
+        account.fact(word, total, VOLUME)
+    net, flows = sums["sold"] - sums["bought"], sums["leaves"] - sums["enters"]
     account.fact("net position", net, VOLUME, "sold less bought")
-    account.fact("flows", leaves - enters, VOLUME, "leaving less entering")
-    difference = net - leaves + enters
-    account.fact("difference", difference, VOLUME, "net position less flows")
-    account.so.append(f"What is sold and what enters are {with_unit(abs(difference), VOLUME)} {'more' if difference > 0 else 'less'} "
+    account.fact("flows", flows, VOLUME, "leaving less entering")
+    account.fact("difference", net - flows, VOLUME, "net position less flows")
+    for word, made in parts.items():
+        for name, volume, note in made:
+            account.fact(f"{word} by {name}", volume, VOLUME, note)
+    account.so.append(f"What is sold and what enters are {with_unit(abs(net - flows), VOLUME)} {'more' if net > flows else 'less'} "
                       "than what is bought and what leaves.")
 
 

@@ -46,6 +46,12 @@ NUMBERS = {one.number: one for one in (
 )}
 
 
+def named(verdict, market=None):
+    """A verdict by its number's name and its place."""
+    place = place_words(verdict, market)
+    return NUMBERS[verdict.number].name + (f", at {place}" if place else "")
+
+
 def place_words(verdict, market=None):
     """The place of a verdict in words: zone 1 (code 20), period 0."""
     words = []

@@ -7,7 +7,7 @@ from .files import Refused, Unable, faulty, open_file, read
 from .layout import CLEARING, DAY, STATEMENT, key_of, keys_of, statement_length
 from .numbers import beside_raw
 from .pair import Pair
-from .paper import NUMBERS, place_words
+from .paper import named
 
 MARK = ">>"  # stands before what is at fault
 SOME_BYTES = 16  # of those that belong to no field
@@ -168,12 +168,10 @@ def head_of_file(reading, verdict):
     if reading.flaw:
         words = f"not whole, {reading.flaw}"
     if reading.fault is not None:
-        words = f"{verdict.line}: {NUMBERS[verdict.number].name}"
-        place = place_words(verdict)
-        words += f", at {place}" if place else ""
+        words = f"{verdict.line}: {named(verdict)}"
     lines = [f"{kind.name} {file.name}, {file.length} bytes: {words}"]
     if kind is CLEARING and reading.fault is None:
-        lines.append(f"with its day: {verdict.line}")
+        lines.append(f"with its day: {verdict.line}: {named(verdict)}")
     return lines
 
 

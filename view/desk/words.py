@@ -63,11 +63,11 @@ def parser():
     one.add_argument("clearing", metavar="CLEARING")
     one.add_argument("-o", dest="output", metavar="FILE.html", required=True)
 
-    one = word("import", "the tables of a folder as day.bin and clearing.bin", "import view/samples/small-day -o /tmp/small")
+    one = word("import", "the tables of a folder as day.bin and clearing.bin", "import view/samples/small-day -o target/small-day")
     one.add_argument("folder", metavar="FOLDER")
     one.add_argument("-o", dest="output", metavar="OUT", help="the folder to write to, in place of FOLDER")
 
-    one = word("export", "day.bin and clearing.bin of a folder as tables", "export samples/accepted -o /tmp/tables")
+    one = word("export", "day.bin and clearing.bin of a folder as tables", "export samples/accepted -o target/tables")
     one.add_argument("folder", metavar="FOLDER")
     one.add_argument("-o", dest="output", metavar="OUT", help="the folder to write to, in place of FOLDER")
     return top
