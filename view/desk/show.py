@@ -204,4 +204,7 @@ def lines_of(reading, verdict, section=None, row=None):
 def show(name, day_name=None, kind=None, section=None, row=None, programs=None):
     """The lines to print, and whether the file reads."""
     reading, verdict = taken_apart(name, day_name, kind, programs)
-    return lines_of(reading, verdict, section, row), reading.fault is None and reading.flaw is None
+    lines = lines_of(reading, verdict, section, row)
+    if reading.fault is not None and day_name is None and kind is None:
+        lines += ["", "It is shown as a day file. A clearing file is shown with --day DAY, a broken statement with --as statement."]
+    return lines, reading.fault is None and reading.flaw is None
