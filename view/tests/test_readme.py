@@ -13,7 +13,7 @@ import stored
 
 from desk.words import main
 
-SECTION = (stored.ROOT / "README.md").read_text().partition("## At the desk\n")[2].partition("\n## ")[0]
+SECTION = (stored.ROOT / "README.md").read_text("utf-8").partition("## At the desk\n")[2].partition("\n## ")[0]
 
 
 def blocks():

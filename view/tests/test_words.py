@@ -153,7 +153,10 @@ class Words(unittest.TestCase):
         self.assertNotIn(b"paged", run("show", pair("accepted")[0], env={**screen, "LINES": "10"}).stdout)
 
     def on_terminal(self, settings):
-        parent, child = pty.openpty()
+        try:
+            parent, child = pty.openpty()
+        except OSError:
+            self.skipTest("no terminals here")
         with subprocess.Popen([COMMAND, "show", str(pair("accepted")[0])], stdout=child, stderr=child, env=settings) as done:
             os.close(child)
             text = b""
