@@ -80,8 +80,10 @@ def of_field(account, pair):
     one = part.section.fields_of_row(reading.periods)[position]
     title = part.section.titles(reading.periods)[position]
     earlier, value = row.values[:position], row.values[position]
-    account.title = f"Section {part.section.number}, {part.section.name}, row {number}, field {position}, {title}, of {reading.file.name}"
-    account.fact("stands at", row.offset_of(position, reading.periods), note=f"{one.width} bytes")
+    which = f" ({reading.row_name(part, number)})" if part.section.count.of else ""
+    account.title = (f"Section {part.section.number}, {part.section.name}, row {number}{which}, field {position}, {title}, "
+                     f"of {reading.file.name}")
+    account.fact("stands at", row.offset_of(position, reading.periods), note=f"{one.width} byte{'s' if one.width > 1 else ''}")
     account.fact("found", value, one.unit)
     broken = first_misfit(part.section, position, value, earlier, before, reading.counts)
     if isinstance(broken, tuple):
@@ -123,7 +125,7 @@ def of_price(account, pair):
 
 def line_facts(account, market, line, period):
     account.title = f"On line {line.row} from {zone_words(market, line.start)} to {zone_words(market, line.end)}, period {period}"
-    account.fact("flow", line.flow[period], VOLUME, "above zero from \"from\" to \"to\"")
+    account.fact("flow", line.flow[period], VOLUME, "above zero it runs from \"from\" to \"to\"")
     account.fact("forward capacity", line.forward[period], VOLUME)
     account.fact("back capacity", line.back[period], VOLUME)
 
@@ -248,7 +250,7 @@ def of_block(account, pair):
     missing = -market.gain(block)
     account.fact("missing", missing, MONEY)
     account.so.append(f"Over its periods the block {'gets' if block.side == SELL else 'pays'} {with_unit(missing, MONEY)} "
-                      f"{'less' if block.side == SELL else 'more'} than its limit allows, and it is accepted.")
+                      f"{'less than its limit asks' if block.side == SELL else 'more than its limit allows'}, and it is accepted.")
     table = Table("Period by period", [("period", PLAIN), ("quantity", VOLUME), ("price", PRICE), ("income", MONEY),
                                        ("limit times quantity", MONEY)])
     for period, quantity in enumerate(block.quantity):

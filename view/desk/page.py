@@ -48,7 +48,7 @@ def policy(style, script):
 def verdict_part(pair, account):
     """The verdict, large, and the reason for it."""
     accepted = pair.verdict.accepted
-    names = [pair.day.file.name] + ([pair.clearing.file.name] if pair.clearing is not None else [])
+    names = [file.name for file in pair.files]
     told = account_part(account)
     return tag("header", tag("p", mark(accepted), tag("code", account.line), class_="line"), tag("h1", account.head.rstrip(".")),
                tag("p", " and ".join(names), class_="files"), tag("p", account.says, class_="says"),
@@ -151,8 +151,7 @@ def drawing_aids():
 
 
 def foot(pair):
-    files = [reading.file for reading in (pair.day, pair.clearing) if reading is not None]
-    lengths = "; ".join(f"{file.name}, {file.length} bytes" for file in files)
+    lengths = "; ".join(f"{file.name}, {file.length} bytes" for file in pair.files)
     return tag("footer", tag("p", lengths, "; ", tag("code", pair.verdict.line), "."),
                tag("p", "The verdict is the checker's; this page shows what stands in the files."))
 

@@ -1,7 +1,7 @@
 """A day file and a clearing file with the checker's verdict on them, taken apart as far as they read."""
 
 from dataclasses import dataclass
-from typing import Optional
+from typing import Optional, Tuple
 
 from . import checker
 from .files import File, Reading, faulty, open_file, read
@@ -11,22 +11,22 @@ from .market import Market
 
 @dataclass
 class Pair:
-    """`clearing` is None where the day file does not read; `market` is None where either does not."""
+    """`clearing` is None where the day file does not read; `market` is None where either does not. `files` are both, read or not."""
     verdict: checker.Verdict
     day: Reading
     clearing: Optional[Reading]
     market: Optional[Market]
     room: Optional[int] = None
+    files: Tuple[File, ...] = ()
 
 
 def take_apart(day: File, clearing: File, verdict, room=None):
-    reading = read(DAY, day, None, verdict)
-    if faulty(DAY, verdict):
-        return Pair(verdict, reading, None, None, room)
-    chosen = read(CLEARING, clearing, reading.counts, verdict)
-    if faulty(CLEARING, verdict):
-        return Pair(verdict, reading, chosen, None, room)
-    return Pair(verdict, reading, chosen, Market(reading, chosen), room)
+    reading, chosen, market = read(DAY, day, None, verdict), None, None
+    if not faulty(DAY, verdict):
+        chosen = read(CLEARING, clearing, reading.counts, verdict)
+        if not faulty(CLEARING, verdict):
+            market = Market(reading, chosen)
+    return Pair(verdict, reading, chosen, market, room, (day, clearing))
 
 
 def load(day_name, clearing_name, programs=None, room=None):
