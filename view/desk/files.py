@@ -75,7 +75,7 @@ class Part:
 @dataclass
 class Reading:
     """A file taken apart up to its fault. `end` is where the reading stopped; `fault` the verdict that names a fault in this file. A
-    statement is never judged: what it lacks is its `flaw`."""
+    statement is never judged: what it lacks is its `flaw`. `codes` are those of the day's zones, as far as they are known."""
     kind: object
     file: File
     counts: Dict[str, int]
@@ -83,6 +83,7 @@ class Reading:
     end: int = 0
     fault: Optional[object] = None
     flaw: Optional[str] = None
+    codes: List[int] = field(default_factory=list)
 
     @property
     def periods(self):
@@ -105,14 +106,16 @@ def faulty(kind, verdict):
     return verdict is not None and verdict.number in kind.faults and verdict.number > 0
 
 
-def read(kind, file, counts=None, verdict=None):
-    """Takes a file apart. `counts` are the day file's for the other kinds; `verdict` is the checker's."""
+def read(kind, file, counts=None, verdict=None, codes=()):
+    """Takes a file apart. `counts` and `codes` are the day file's, for the other kinds; `verdict` is the checker's."""
     fault = verdict if faulty(kind, verdict) else None
-    reading = Reading(kind, file, {} if counts is None else counts, fault=fault)
+    reading = Reading(kind, file, {} if counts is None else counts, fault=fault, codes=list(codes))
     last = fault.place[0] if fault is not None and fault.number != kind.trails else len(kind.sections)
     for section in kind.sections[:last]:
         if reading.flaw is None:
             read_section(reading, section, fault if section.number == last else None)
+    if kind.name == "day" and len(reading.parts) > 1:
+        reading.codes = [row.value("code") for row in reading.rows("zones") if row.whole]
     if fault is None and reading.flaw is None and reading.end != len(file.data):
         flaw_in(reading, f"{len(file.data) - reading.end} bytes are behind its last section")
     return reading

@@ -56,7 +56,7 @@ class Market:
     def __init__(self, day, clearing):
         self.day, self.clearing = day, clearing
         self.periods, self.zones = day.counts["periods"], day.counts["zones"]
-        self.codes = [row.value("code") for row in day.rows("zones")]
+        self.codes = day.codes
         self.floor = [row.value("floor") for row in day.rows("periods")]
         self.ceiling = [row.value("ceiling") for row in day.rows("periods")]
         prices = [row.value("price") for row in clearing.rows("prices")]

@@ -23,7 +23,7 @@ class Pair:
 def take_apart(day: File, clearing: File, verdict, room=None):
     reading, chosen, market = read(DAY, day, None, verdict), None, None
     if not faulty(DAY, verdict):
-        chosen = read(CLEARING, clearing, reading.counts, verdict)
+        chosen = read(CLEARING, clearing, reading.counts, verdict, reading.codes)
         if not faulty(CLEARING, verdict):
             market = Market(reading, chosen)
     return Pair(verdict, reading, chosen, market, room, (day, clearing))

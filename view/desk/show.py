@@ -22,29 +22,33 @@ def taken_apart(name, day_name, asked_kind, programs):
     if day_name is None:
         if asked_kind == CLEARING.name:
             raise Unable(f"{name}: a clearing file is read by its day's counts: add --day DAY")
-        kind, verdict, counts = DAY, judge_day(file.data, programs), None
+        kind, verdict, counts, codes = DAY, judge_day(file.data, programs), None, ()
     else:
         day_file = open_file(day_name)
         kind, verdict = CLEARING, judge(day_file.data, file.data, programs)
         if faulty(DAY, verdict):
             raise Refused(f"{day_name}: the day file itself does not read, {verdict.line}; show it by itself")
-        counts = read(DAY, day_file, None, verdict).counts
+        day = read(DAY, day_file, None, verdict)
+        counts, codes = day.counts, day.codes
         if asked_kind == DAY.name:
             raise Unable(f"{name}: a day file is read by itself: leave out --day")
-    as_statement = read(STATEMENT, file, counts)
+    as_statement = read(STATEMENT, file, counts, codes=codes)
     fits = not as_statement.flaw and (counts is None or len(file.data) == statement_length(counts))
     if asked_kind == STATEMENT.name or asked_kind is None and faulty(kind, verdict) and fits:
         return as_statement, None
-    return read(kind, file, counts, verdict), verdict
+    return read(kind, file, counts, verdict, codes), verdict
 
 
 # ---- rows
 
 def value_text(reading, field, value):
-    """A value beside what it stands for; a zone with its code."""
-    if field.of == "zones" and value < reading.counts["zones"]:
-        return f"{value} (code {reading.rows('zones')[value].value('code')})"
-    return beside_raw(value, field.unit)
+    """A value beside what it stands for."""
+    return row_text(reading, field.of, value) if field.of else beside_raw(value, field.unit)
+
+
+def row_text(reading, section, number):
+    """The number of a row of a section of the day; a zone's with its code."""
+    return f"{number} (code {reading.codes[number]})" if section == "zones" and number < len(reading.codes) else str(number)
 
 
 def field_texts(reading, part, row):
@@ -83,7 +87,8 @@ def cells_of_row(reading, part, row):
     if section.named:
         cells.append(section.named[row.number].name)
     if named_by_counts(reading, section):
-        cells += map(str, key_of(section, row.number, reading.counts))
+        keys = key_of(section, row.number, reading.counts)
+        cells += [row_text(reading, name, key) for name, key in zip(section.count.of, keys)]
     cells += field_texts(reading, part, row)[:len(section.fields)]
     return cells + [""] * (len(head_of_rows(reading, part)) - len(cells))
 

@@ -78,7 +78,7 @@ class Words(unittest.TestCase):
         said = [int(line.rsplit(" ", 1)[1]) for line in (SAMPLES / "accepted" / "verdict").read_text().splitlines()[1:]]
         self.assertEqual(statement.read_bytes(), struct.pack("<H6qH2i", 6, *said[:6], 2, *said[6:]))
         self.assertIn(b"statement ", run("show", statement).stdout.splitlines()[0])
-        self.assertIn(b"zone", run("show", statement, "--day", day).stdout)
+        self.assertIn(b"1 (code 20)", run("show", statement, "--day", day).stdout)
         self.assertIn(b"day ", run("show", statement, "--as", "day").stdout.splitlines()[0])
         self.assertEqual(run("show", statement, "--as", "day").returncode, 1)
         self.assertEqual(run("show", day, "--as", "statement").returncode, 1)
