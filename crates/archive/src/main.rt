@@ -3,6 +3,8 @@
 // A pair is the lengths of its day file and of its clearing file (u32 each, little-endian), then the bytes of the day file, then those of
 // the clearing file. Of a file longer than 65,536 bytes the first 65,536 are judged. For each pair it writes what the program writes for
 // those two files. Where the input ends inside a pair, or can't be read on, it writes "cut short" and stops.
+#![tactic(auto)]
+
 ghost use Rattle.std.specs.Prelude.{◌≤◌};
 
 use input::Reading;

@@ -1,5 +1,7 @@
 // The program: judges the files day.bin and clearing.bin of its working directory. It reads at most 65,536 bytes of each, which is longer
 // than any file that reads without fault.
+#![tactic(auto)]
+
 use input::Reading;
 
 fn read_named(name: &[u8], buf: &mut [u8]) -> Reading {

@@ -1,4 +1,6 @@
 // The walk over the blocks: each row once, tested and counted. An answer of `true` is sure; `false` is a doubt, and says nothing.
+#![tactic(auto)]
+
 ghost use Rattle.std.specs.Prelude.{◌≡◌, true, ◌&&◌, ◌+◌, ◌*◌, ◌≤◌, ◌<◌, leb, ltb, pos, nat_abs, ◌+ℤ◌, length, get_or};
 ghost use Rattle.whole.specs.Whole.{◌≼◌, sum, at, above_zero};
 ghost use Rattle.cells.specs.Cells.{added, Gained, Within, shortfall};

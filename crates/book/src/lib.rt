@@ -1,4 +1,6 @@
 // Two files whose frames are without fault, row by row, as the market's day, prices and choice.
+#![tactic(auto)]
+
 ghost use Rattle.std.specs.Prelude.{◌≡◌, ◌+◌, ◌*◌, ◌≤◌, ◌<◌, pos, neg_ℤ, length};
 ghost use Rattle.limits.specs.Limits.{most_periods};
 ghost use Rattle.wire.specs.Bytes.{u32_at};

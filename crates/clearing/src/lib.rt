@@ -1,4 +1,6 @@
 // The clearing file: four sections, with the counts that the day file asks, and nothing after them.
+#![tactic(auto)]
+
 ghost use Rattle.std.specs.Prelude.{◌≡◌};
 ghost use Rattle.stages.specs.Stage.{first_fault};
 ghost use Rattle.sections.specs.Section.{ended};

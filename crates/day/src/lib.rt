@@ -1,4 +1,6 @@
 // The day file: five sections, and nothing after them.
+#![tactic(auto)]
+
 ghost use Rattle.std.specs.Prelude.{◌≡◌, ◌≤◌};
 ghost use Rattle.limits.specs.Limits.{most_periods};
 ghost use Rattle.stages.specs.Stage.{first_fault};

@@ -1,5 +1,7 @@
 // The checker for other languages: what include/ayinzhad.h declares. Nothing is asked of a caller but that each pointer leads to as many
 // elements as the length beside it says. A buffer for the answer that has another length than the answer gets 255, and nothing else happens.
+#![tactic(auto)]
+
 ghost use Rattle.std.specs.Prelude.{◌≡◌, length};
 ghost use Rattle.verdict.specs.Verdict.{number_of, place_of};
 ghost use Rattle.embed.specs.Surface.{three, six, check_number, check_place, check_room, totals_number, totals_out, look_up_number, look_up_found};

@@ -1,5 +1,7 @@
 // Both files' frames: the sections opened one after the other by their heads, and nothing after them. Only the periods and the zones are
 // read whole.
+#![tactic(auto)]
+
 ghost use Rattle.std.specs.Prelude.{◌≡◌, ◌≤◌};
 ghost use Rattle.limits.specs.Limits.{most_periods};
 ghost use Rattle.rows.specs.Rows.{row_size};

@@ -1,4 +1,6 @@
 // Files read to their end, or as far as a buffer goes.
+#![tactic(auto)]
+
 ghost use Rattle.std.specs.Prelude.{◌≡◌, length, take};
 ghost use Rattle.input.specs.Within.{Within};
 

@@ -1,4 +1,6 @@
 // The limits, and the rules of the day file's rows over the values of their fields: which field is the first to fail its test.
+#![tactic(auto)]
+
 ghost use Rattle.std.specs.Prelude.{◌≡◌, ◌&&◌, [], ◌∷◌, length};
 ghost use Rattle.std.specs.Int.Signed.{le_z};
 ghost use Rattle.stages.specs.First.{first_bad};

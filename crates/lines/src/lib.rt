@@ -1,5 +1,7 @@
 // The walk over prices, lines and flows: each row once, tested and counted. `true` only where nothing is broken; `false` is doubt, and
 // promises nothing.
+#![tactic(auto)]
+
 ghost use Rattle.std.specs.Prelude.{◌≡◌, true, ℕ, ◌<◌, ◌≤◌, pos, length, get_or};
 ghost use Rattle.cells.specs.Cells.{Gained, Within};
 ghost use Rattle.market.specs.Rules.{line_ok};

@@ -1,4 +1,6 @@
 // The look-up: the rows of a named section, as that part of the caller's file.
+#![tactic(auto)]
+
 ghost use Rattle.std.specs.Prelude.{◌≡◌};
 ghost use Rattle.stages.specs.Stage.{first_fault};
 ghost use Rattle.sections.specs.Section.{between, rows, onward};

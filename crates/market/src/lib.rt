@@ -1,4 +1,6 @@
 // The trade with no bytes: orders and lines, what is accepted of them, the rules' tests at one place, and what a trade counts.
+#![tactic(auto)]
+
 ghost use Rattle.std.specs.Prelude.{◌≡◌, ◌≤◌, pos, neg_ℤ, nat_abs, ◌+ℤ◌, ◌-ℤ◌, ◌*ℤ◌};
 ghost use Rattle.std.specs.Int.{w64};
 ghost use Rattle.std.proofs.Common.{SFits};

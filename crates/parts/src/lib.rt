@@ -1,4 +1,6 @@
 // The sections of a day file whose frame is without fault, each from its count on, as parts of the caller's file.
+#![tactic(auto)]
+
 ghost use Rattle.std.specs.Prelude.{◌≡◌};
 ghost use Rattle.day.specs.Day.{zones_part, lines_part, steps_part, blocks_part};
 ghost use Rattle.sections.specs.Section.{onward};

@@ -1,4 +1,6 @@
 // Numbers and bytes on standard output, for the programs.
+#![tactic(auto)]
+
 ghost use Rattle.std.specs.Prelude.{◌≡◌, nat_abs, length};
 
 use libc::STDOUT_FILENO;

@@ -1,4 +1,6 @@
 // One section of either file, by the kind of its rows.
+#![tactic(auto)]
+
 ghost use Rattle.std.specs.Prelude.{◌≡◌, ◌+◌, ◌*◌, ◌≤◌, length};
 ghost use Rattle.stages.specs.Table.{first_cell};
 ghost use Rattle.limits.specs.Limits.{most_periods};

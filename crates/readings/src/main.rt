@@ -1,5 +1,7 @@
 // Runs both readers and the look-up on day A and clearing A, whole, cut at every length, and with each byte altered, and writes the
 // number and the place that each gets.
+#![tactic(auto)]
+
 ghost use Rattle.std.specs.Prelude.{◌≡◌, length};
 ghost use Rattle.io.specs.Counts.{IsPrefixLen};
 

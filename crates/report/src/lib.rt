@@ -1,4 +1,6 @@
 // An outcome on standard output: the verdict's number and place; where it is accepted the six totals and the net positions too.
+#![tactic(auto)]
+
 ghost use Rattle.std.specs.Prelude.{◌≡◌, ◌<◌};
 ghost use Rattle.verdict.specs.Verdict.{number_of};
 ghost use Rattle.verdict.specs.Verdict as meaning;

@@ -2,6 +2,8 @@
 //
 // The file `pairs` holds records: the lengths of the day file, of the clearing file and of the room (u16 each), then the bytes of the day
 // file and of the clearing file. A room is filled with the byte 170 before it is lent.
+#![tactic(auto)]
+
 ghost use Rattle.std.specs.Prelude.{◌≡◌, length};
 
 const MOST_PAIRS: usize = 2000;

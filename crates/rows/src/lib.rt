@@ -1,4 +1,6 @@
 // The rows of both files' sections: how long they are, and which field of a row is the first to fail its test.
+#![tactic(auto)]
+
 ghost use Rattle.std.specs.Prelude.{◌≡◌, ◌&&◌, not, [], ◌∷◌, ◌+◌, ◌*◌, ◌≤◌, ◌<◌, leb, length};
 ghost use Rattle.std.specs.Int.Signed.{le_z};
 ghost use Rattle.wire.specs.Bytes.{u32_at, i32_at};

@@ -1,5 +1,7 @@
 // The rules 11 to 17, 20 and 21 over two files that read without fault: the test at one place, the search for the first broken place, the
 // rules in order.
+#![tactic(auto)]
+
 ghost use Rattle.std.specs.Prelude.{◌≡◌, [], ◌∷◌, ◌+◌, ◌*◌, ◌<◌, pos, length, get_or};
 ghost use Rattle.stages.specs.Stage.{spot, first_fault, or_fault};
 ghost use Rattle.market.specs.Rules.{number, equal};

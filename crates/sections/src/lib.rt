@@ -1,4 +1,6 @@
 // A section of a file: its head, and what is left of the file after it.
+#![tactic(auto)]
+
 ghost use Rattle.std.specs.Prelude.{◌≡◌, ◌+◌, ◌*◌, ◌≤◌, ◌<◌, length, take, drop};
 ghost use Rattle.sections.specs.Section.{onward};
 ghost use Rattle.sections.specs.Answer.{head_of, reading_of};

@@ -1,4 +1,5 @@
 // What a search for a fault finds.
+#![tactic(auto)]
 
 // The first of some rows at which a test fails.
 #[derive(Drop)]

@@ -1,4 +1,6 @@
 // The walk over the steps: each row is read once, tested and counted. It ends at the first doubt.
+#![tactic(auto)]
+
 ghost use Rattle.std.specs.Prelude.{◌≡◌, true, ◌&&◌, ◌+◌, ◌≤◌, ◌<◌, leb, eqb, pos, length, get_or, set};
 ghost use Rattle.limits.specs.Limits.{is_price, is_quantity};
 ghost use Rattle.wire.specs.Bytes.{u32_at};

@@ -1,5 +1,7 @@
 // The verdict on a day file and a clearing file: accepted with its totals, and a statement in the lent room; or refused with a number and
 // a place.
+#![tactic(auto)]
+
 ghost use Rattle.std.specs.Prelude.{◌≡◌, length};
 ghost use Rattle.cells.specs.Cells.{Tabled};
 ghost use Rattle.book.specs.Of.{OfFiles};

@@ -1,5 +1,7 @@
 // Both files in one walk: each row is read once, tested and counted. The walk ends at the first doubt; what is broken then, and where, is for
 // the rules in their order to say.
+#![tactic(auto)]
+
 ghost use Rattle.std.specs.Prelude.{◌≡◌, true, pos, ◌+ℤ◌, length, get_or, replicate};
 ghost use Rattle.std.specs.Int.{w64};
 ghost use Rattle.std.proofs.Common.{SFits};

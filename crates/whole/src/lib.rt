@@ -1,1 +1,2 @@
 // Signed whole numbers and sums over a count: definitions and laws, no code.
+#![tactic(auto)]

@@ -1,4 +1,6 @@
 // Numbers in a lent slice of bytes, lowest byte first: read and written.
+#![tactic(auto)]
+
 ghost use Rattle.std.specs.Prelude.{◌≡◌, ◌+◌, ◌≤◌, ◌<◌, nat_abs, length};
 ghost use Rattle.wire.specs.Bytes.{u8_at, u16_at, u32_at, i32_at, signed32, bits32, bits64, bytes16, bytes32, bytes64, put};
 
