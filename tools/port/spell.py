@@ -21,7 +21,7 @@ DECLARED = re.compile(rf"(?m)^ *((?:(?:{HEADS}) )*)([^\s(){{}}\[\],;.:@\"«»]+)
 RULESET = re.compile(r"(?m)^ *(?:pub )?ruleset ([^\s(){}\[\],;.:]+)")
 WORD = re.compile(r"[^\s(){}\[\],;.@\"«»:`]+")
 OPERATOR = re.compile(r"[^A-Za-z0-9_'-]")
-COMMENT = re.compile(r"--[^\n]*")
+COMMENT = re.compile(r"(?:(?<=\s)|^)--(?=\s|$)[^\n]*", re.M)
 # Lemmas that port.py spelled with an underscore already, beside a definition that comes to the same name.
 LEMMAS = {"line_gives", "with_rows"}
 # Definitions of two crates that come to one name and meet in no file.

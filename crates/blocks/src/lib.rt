@@ -45,7 +45,7 @@ fn head_ok(part: &[u8], at: usize, zones: usize) -> bool
 
 // What is summed over the periods: the quantities, and the quantities at their raised prices. No quantity is above the bits that any of them
 // has.
-#[derive(Drop)]
+#[derive(Clone, Copy)]
 pub struct Walked {
     pub all: u64,
     pub worth: u64,

@@ -15,7 +15,7 @@ use sections::Reading;
 use stages::Place;
 
 // What the reader of both files answers: they read without fault, or the number and the place of the first fault.
-#[derive(Drop)]
+#[derive(Clone, Copy)]
 pub enum Files {
     Good(Counts),
     Bad(u8, Place),

@@ -14,7 +14,7 @@ use sections::Reading;
 use stages::Place;
 
 // How many rows each section has.
-#[derive(Drop)]
+#[derive(Clone, Copy)]
 pub struct Counts {
     pub periods: usize,
     pub zones: usize,
@@ -24,7 +24,7 @@ pub struct Counts {
 }
 
 // What the reader of a day file answers: it reads without fault, or the number and the place of its first fault.
-#[derive(Drop)]
+#[derive(Clone, Copy)]
 pub enum DayFile {
     Good(Counts),
     Bad(u8, Place),

@@ -2,7 +2,7 @@
 -- Assumes nothing.
 use Rattle.std.specs.Prelude.{ℕ, ◌<◌, ◌≤◌, ◌≡◌, refl, ◌↔◌, ◌⊎◌, List, [], ◌∷◌, ◌++◌}
 use Rattle.std.proofs.Common.{arith, inl, inr, ⊎_elim, leb-false}
-use Rattle.std.proofs.Math.Logic.{Iff·rfl, Iff·trans, Iff·and}
+use Rattle.std.proofs.Math.Logic.Iff
 use Rattle.std.proofs.lemmas.Bool.{lt-leb}
 use Rattle.stages.specs.Stage.{Stage, place, field_place, first_fault, answer, Breaks, BrokenAt, Holds, Means, means, broken_here}
 use Rattle.stages.specs.declared.Place.{Place}
@@ -218,14 +218,14 @@ module _ (day clearing : List ℕ) (room : ℕ) where
   past_files : (k : ℕ) (p : Place) → 8 < k →
       (verdict day clearing room ≡ Refused k p) ↔ ((GoodDay day × GoodClearing (counts day) clearing) × Means after_files (Broken k p))
   past_files k p l =
-      Iff·trans (refused_is_broken day clearing room k p)
-      (Iff·trans (in_second (file_stages day clearing) after_files k p (FromTo 1 8) (λ h. omega (arith, l, h.1)) (file_numbers day clearing))
-      (Iff·and (files_clean day clearing) Iff·rfl))
+      Iff.trans (refused_is_broken day clearing room k p)
+      (Iff.trans (in_second (file_stages day clearing) after_files k p (FromTo 1 8) (λ h. omega (arith, l, h.1)) (file_numbers day clearing))
+      (Iff.and (files_clean day clearing) Iff.rfl))
 
   -- one up to 8: the fault is in the files
   in_files : (k : ℕ) (p : Place) → k ≤ 8 → (verdict day clearing room ≡ Refused k p) ↔ Means (file_stages day clearing) (Broken k p)
   in_files k p l =
-      Iff·trans (refused_is_broken day clearing room k p)
+      Iff.trans (refused_is_broken day clearing room k p)
       (in_first (file_stages day clearing) after_files k p AfterNumber (λ a. let b = after_beyond a in omega (arith, l, b)) after_numbers)
 
   -- A refusal with the number 3: the place names the first field of the day file that fails its test.
@@ -234,8 +234,8 @@ module _ (day clearing : List ℕ) (room : ℕ) where
   refused_by_day_field section row field =
       let p = field_place section row field in
       let c = clearing_stages (counts day) clearing in
-      Iff·trans (in_files 3 p (omega arith))
-      (Iff·trans (in_first (day_stages day) c 3 p (FromTo 5 8) (λ h. omega (arith, h.0)) (clearing_numbers_lem (counts day) clearing))
+      Iff.trans (in_files 3 p (omega arith))
+      (Iff.trans (in_first (day_stages day) c 3 p (FromTo 5 8) (λ h. omega (arith, h.0)) (clearing_numbers_lem (counts day) clearing))
       (day_field day section row field))
 
   -- One with the number 7: the day file reads without fault, and the place names the first field of the clearing file that fails its test.
@@ -244,9 +244,9 @@ module _ (day clearing : List ℕ) (room : ℕ) where
   refused_by_clearing_field section row field =
       let p = field_place section row field in
       let c = clearing_stages (counts day) clearing in
-      Iff·trans (in_files 7 p (omega arith))
-      (Iff·trans (in_second (day_stages day) c 7 p (FromTo 1 4) (λ h. omega (arith, h.1)) (day_numbers_lem day))
-      (Iff·and (day_clean day) (clearing_field (counts day) clearing section row field)))
+      Iff.trans (in_files 7 p (omega arith))
+      (Iff.trans (in_second (day_stages day) c 7 p (FromTo 1 4) (λ h. omega (arith, h.1)) (day_numbers_lem day))
+      (Iff.and (day_clean day) (clearing_field (counts day) clearing section row field)))
 
   -- Every other refusal has 0 for the field.
   pub field_only : (k : ℕ) (p : Place) → verdict day clearing room ≡ Refused k p → ¬ (k ≡ 3) → ¬ (k ≡ 7) → p.third ≡ 0

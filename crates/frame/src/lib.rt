@@ -16,14 +16,14 @@ use rows::Kind;
 use sections::Section;
 
 // The frames of both files are good, and these are the counts; a doubt says nothing.
-#[derive(Drop)]
+#[derive(Clone, Copy)]
 pub enum Frame {
     Framed(Counts),
     Doubt,
 }
 
 // How many rows a section has, where its reader is sure of it.
-#[derive(Drop)]
+#[derive(Clone, Copy)]
 enum Count {
     Of(usize),
     Unsure,

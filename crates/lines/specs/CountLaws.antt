@@ -9,7 +9,7 @@ use Rattle.whole.specs.Whole as whole
 use Rattle.whole.specs.Whole.{◌≼◌, ◌≺◌, sum, at}
 use Rattle.whole.specs.Ring.{le_z_true, le_z_false, ≼_refl, ≼_trans, ≼_of_<, neg_anti, pos-≼}
 use Rattle.whole.specs.Sums.{at_same, at_other, sum_next, sum_zero, sum_only}
-use Rattle.whole.specs.Size.{abs_le, abs_neg, abs-+, abs--, abs-*-≤, at_size, sum-within, fits-i64}
+use Rattle.whole.specs.Size.{abs_le, abs_neg, abs-+, abs--, abs-*-≤, at_size, sum_within, fits_i64}
 use Rattle.stages.specs.First.{both, apart, ltb_is, eqb_is, not_is}
 use Rattle.cells.specs.Cells.{added, Gained, Within, rent, nothing_gained, gained_at, gained_then, gained_same, within_gained, cell_below}
 use Rattle.limits.specs.Limits.{most_periods, most_lines, most_price, most_flow, most_volume}
@@ -26,7 +26,7 @@ use Rattle.day.specs.Day.{lines_part}
 use Rattle.day.specs.Good.{prices_most}
 use Rattle.book.specs.Book.{line_at, line_of, forward_of, back_of, floor_of, ceiling_of, prices_of, flow_of, day_of, choice_of}
 use Rattle.book.specs.DayRows.{line_within}
-use Rattle.lines.specs.Sure.{SurePrice, SureLine, LinesCounted, line_gives}
+use Rattle.lines.specs.Sure.{SurePrice, SureLine, LinesCounted, line_gives_lem}
 use Rattle.lines.specs.Counted.{Below, Between, Gathered, FlowSure, carried, Carries, rent_of, FlowAsks, FlowCounted}
 use Rattle.lines.specs.Counted.{EndsSure, LineAsks, PeriodsCounted, LineCounted, LinesAsk, LinesSoFar}
 
@@ -325,7 +325,7 @@ module _ {c : Counts} (day : List ℕ) {clearing : List ℕ} {l : ℕ} {flows₀
       gained_same k.all.flows.gained
       (λ z h _ i. sum_places c.periods h (λ j. line_leaves (day_of c day) (choice_of c clearing) z j l) i)
 
-  line_gives_lem : Gained 1 5 (λ _. line_gives c day clearing l) sums₀ sums₁
+  line_gives_lem : Gained 1 5 (λ _. line_gives_lem c day clearing l) sums₀ sums₁
   unfolding line_of
   line_gives_lem =
       gained_same k.all.sums.gained
@@ -347,7 +347,7 @@ module _ {c : Counts} {day clearing : List ℕ} where
       leaves_within l i z h _ j =
           net_flow_size (line_of c day l).from (line_of c day l).to z (flow_of c clearing l h) (flow_small ((p.sure.each l i).flow_is h j))
 
-      gives_within : (l : ℕ) → l < n → (z k : ℕ) → z < 1 → k < 5 → nat_abs (line_gives c day clearing l k) ≤ 50000000000000
+      gives_within : (l : ℕ) → l < n → (z k : ℕ) → z < 1 → k < 5 → nat_abs (line_gives_lem c day clearing l k) ≤ 50000000000000
       unfolding line_of
       gives_within l i z k _ _ =
           let rents = rent_at (day_of c day) (prices_of c clearing) (choice_of c clearing) l in

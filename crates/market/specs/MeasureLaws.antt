@@ -6,7 +6,7 @@ use Rattle.std.proofs.Math.Path.{refl, sym}
 use Rattle.whole.specs.Whole.{sum, at}
 use Rattle.whole.specs.Ring.{given, linear, ring}
 use Rattle.whole.specs.Sums.{sums, sum_cong}
-use Rattle.whole.specs.Size.{abs_neg, abs--, abs-*-≤, at_size, above-zero-size, sum-within}
+use Rattle.whole.specs.Size.{abs_neg, abs--, abs-*-≤, at_size, above_zero_size, sum_within}
 use Rattle.limits.specs.Limits.{most_periods, most_lines, most_steps, most_blocks, most_price, most_flow, most_volume, most_ratio}
 use Rattle.market.specs.Market.{Day, Choice, Prices, block_volume, step_trade, block_trade, of_sells, of_buys, volume_at, margin}
 use Rattle.market.specs.Market.{accepted, net_position, leaving, entering, order_value, traded_volume, surplus_of, whole_surplus, left_surplus, missed}
@@ -193,7 +193,7 @@ module _ (d : Day) (p : Prices) (c : Choice) (placed : Placed d) (ranged : Range
   left_size k l =
       let whole = whole_surplus d p k in
       let taken = block_measured d p Surplus k (c.ratio k) in
-      rw (left_is d p c k) (omega (arith, abs-- whole taken, whole-size k l, block_size Surplus k (c.ratio k) l (ranged.ratio k l)))
+      rw (left_is d p c k) (omega (arith, abs-- whole taken, whole_size k l, block_size Surplus k (c.ratio k) l (ranged.ratio k l)))
 
   pub missed_size : (n : ℕ) → n ≤ d.blocks → nat_abs (sum n (missed d p c)) ≤ 10000000000000000
   missed_size n l =

@@ -1,7 +1,7 @@
 -- The tests of the rules are their sentences, and what a choice has that obeys them. Assumes nothing.
 use Rattle.std.specs.Prelude.{ℕ, zero, suc, ◌*◌, ◌%◌, ◌<◌, ◌≤◌, ◌≡◌, refl, ◌↔◌, ◌⊎◌, Bool, true, false, ◌||◌, List, [], ◌∷◌, eqb, ℤ, pos, neg_ℤ, ◌-ℤ◌, ◌*ℤ◌}
 use Rattle.std.proofs.Common.{arith, inl, inr, ne_eqb}
-use Rattle.std.proofs.Math.Logic.{Iff·rfl, Iff·symm, Iff·trans}
+use Rattle.std.proofs.Math.Logic.Iff
 use Rattle.std.proofs.Math.IntN.{*ℤ-zero}
 use Rattle.whole.specs.Whole.{◌≼◌, ◌≺◌, sum}
 use Rattle.whole.specs.Ring.{given, linear, ring, le_z_true, le_z_false, ≼_refl, ≼_antisym, ≼_or_<, *_nonneg, *_cancel, above_zero_nonneg}
@@ -48,21 +48,21 @@ ruleset tests = (equal_is, both, unless, above_none, leb_is, eqb_is, le_z_true, 
 
 step_is : (side : Side) (limit price : ℤ) (quantity volume : ℕ) → (step_ok side limit quantity price volume ≡ true)
     ↔ ((InTheMoney side limit price → volume ≡ quantity) × (OutOfTheMoney side limit price → volume ≡ 0))
-step_is Sell limit price quantity volume = simp tests Iff·rfl
-step_is Buy limit price quantity volume = simp tests Iff·rfl
+step_is Sell limit price quantity volume = simp tests Iff.rfl
+step_is Buy limit price quantity volume = simp tests Iff.rfl
 
 module _ (d : Day) (p : Prices) (c : Choice) where
   pub test_is : (rule : Rule) (row col : ℕ) → (test d p c rule row col ≡ true) ↔ Obeys d p c rule row col
   unfolding test surplus_of
-  test_is Price zone period = simp tests Iff·rfl
+  test_is Price zone period = simp tests Iff.rfl
   test_is Capacity l period = simp tests (λ h. (h.1, h.0), λ h. (h.1, h.0))
   test_is Quantity i _ = leb_is _ _
-  test_is Ratio k _ = simp tests Iff·rfl
+  test_is Ratio k _ = simp tests Iff.rfl
   test_is Whole k period = eqb_is _ _
   test_is Balance zone period = equal_is _ _
   test_is Step i _ = let s = d.step i in step_is s.side s.limit (p s.zone s.period) s.quantity (c.volume i)
-  test_is Line l period = simp tests Iff·rfl
-  test_is Block k _ = simp (tests, pays_is) Iff·rfl
+  test_is Line l period = simp tests Iff.rfl
+  test_is Block k _ = simp (tests, pays_is) Iff.rfl
 
   pub breach : (rule : Rule) (row col : ℕ) → (test d p c rule row col ≡ false) ↔ ¬ (Obeys d p c rule row col)
   breach rule row col = fails (test d p c rule row col) (test_is rule row col)
@@ -182,8 +182,8 @@ module _ (d : Day) (p : Prices) (c : Choice) (k : ℕ) (accepted : 0 < c.ratio k
   unfolding surplus_of
   part_pays =
       let b = d.block k in
-      Iff·trans (Iff·symm (pays_is d.periods b.side b.limit (p b.zone) (λ h. block_volume (c.ratio k) (d.quantity k h))))
-      (Iff·trans gains_with_the_whole (pays_is d.periods b.side b.limit (p b.zone) (d.quantity k)))
+      Iff.trans (Iff.symm (pays_is d.periods b.side b.limit (p b.zone) (λ h. block_volume (c.ratio k) (d.quantity k h))))
+      (Iff.trans gains_with_the_whole (pays_is d.periods b.side b.limit (p b.zone) (d.quantity k)))
 
 -- flow runs towards the dearer end, so it earns
 earns : (flow forward back from to : ℤ) → pos 0 ≼ forward → pos 0 ≼ back → (from ≺ to → flow ≡ forward) → (to ≺ from → flow ≡ neg_ℤ back) →

@@ -12,13 +12,13 @@ ghost use Rattle.market.specs.Measures.{Small, gain, sold, bought, measured};
 // The ratio that is all of a block, in thousandths.
 pub const WHOLE: u32 = 1000;
 
-#[derive(Drop)]
+#[derive(Clone, Copy)]
 pub enum Side {
     Sell,
     Buy,
 }
 
-#[derive(Drop)]
+#[derive(Clone, Copy)]
 pub struct Step {
     pub zone: usize,
     pub period: usize,
@@ -28,7 +28,7 @@ pub struct Step {
 }
 
 // A block's quantities stand beside it, one for each period.
-#[derive(Drop)]
+#[derive(Clone, Copy)]
 pub struct Block {
     pub zone: usize,
     pub side: Side,
@@ -38,14 +38,14 @@ pub struct Block {
 }
 
 // A line's capacities stand beside it, two for each period.
-#[derive(Drop)]
+#[derive(Clone, Copy)]
 pub struct Line {
     pub from: usize,
     pub to: usize,
 }
 
 // What is accepted of an order in one period.
-#[derive(Drop)]
+#[derive(Clone, Copy)]
 pub struct Trade {
     pub zone: usize,
     pub period: usize,
@@ -55,7 +55,7 @@ pub struct Trade {
 }
 
 // The six totals of an accepted clearing.
-#[derive(Drop)]
+#[derive(Clone, Copy)]
 pub struct Totals {
     pub value: i64,
     pub buyers: i64,
@@ -66,7 +66,7 @@ pub struct Totals {
 }
 
 // The rules of a clearing, 11 to 13, 20 and 21, 14 to 17.
-#[derive(Drop)]
+#[derive(Clone, Copy)]
 pub enum Rule {
     Price,
     Capacity,
@@ -80,7 +80,7 @@ pub enum Rule {
 }
 
 // What is counted of a trade.
-#[derive(Drop)]
+#[derive(Clone, Copy)]
 pub enum Measure {
     // Its part of the order value.
     Value,

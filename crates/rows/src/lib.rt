@@ -13,7 +13,7 @@ ghost use Rattle.rows.specs.Rows.{empty, block_by_itself, block_fields, volume_f
 use stages::Found;
 
 // The sections of a day file, and those of a clearing file.
-#[derive(Drop)]
+#[derive(Clone, Copy)]
 pub enum Kind {
     Periods,
     Zones,

@@ -8,7 +8,7 @@ ghost use Rattle.sections.specs.Answer.{head_of, reading_of};
 use stages::Place;
 
 // What the reader of a section answers.
-#[derive(Drop)]
+#[derive(Clone, Copy)]
 pub enum Section {
     // It reads without fault, and has so many rows.
     Rows(usize),
@@ -21,7 +21,7 @@ pub enum Section {
 }
 
 // The same, with the number and the place of the fault, as the section's file gives them.
-#[derive(Drop)]
+#[derive(Clone, Copy)]
 pub enum Reading {
     Good(usize),
     Refused(u8, Place),

@@ -2,21 +2,21 @@
 #![tactic(auto)]
 
 // The first of some rows at which a test fails.
-#[derive(Drop)]
+#[derive(Clone, Copy)]
 pub enum Found {
     At(usize),
     Nothing,
 }
 
 // The first cell of a table at which a test fails, row by row.
-#[derive(Drop)]
+#[derive(Clone, Copy)]
 pub enum Spot {
     Cell(usize, usize),
     Nowhere,
 }
 
 // A place, as a refusal names it. The third number is the field's, where a row breaks its rule, and else 0.
-#[derive(Drop)]
+#[derive(Clone, Copy)]
 pub struct Place {
     pub first: usize,
     pub second: usize,
@@ -24,7 +24,7 @@ pub struct Place {
 }
 
 // The number and the place of the first fault, or none.
-#[derive(Drop)]
+#[derive(Clone, Copy)]
 pub enum Fault {
     Broken(u8, Place),
     Clean,

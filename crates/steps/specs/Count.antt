@@ -7,7 +7,7 @@ use Rattle.std.specs.Int.{w64}
 use Rattle.whole.specs.Whole.{◌≼◌, ◌≺◌, sum, at}
 use Rattle.whole.specs.Ring.{given, linear, ring, le_z_true, le_z_false}
 use Rattle.whole.specs.Sums.{sum_next}
-use Rattle.whole.specs.Size.{fits_i64, abs_le, abs-+, abs--, abs-*-≤, at_size, sum-within}
+use Rattle.whole.specs.Size.{fits_i64, abs_le, abs-+, abs--, abs-*-≤, at_size, sum_within}
 use Rattle.stages.specs.First.{both, eqb_is, leb_is}
 use Rattle.cells.specs.Cells.{at_none, at_neg, gained_in_row}
 use Rattle.cells.specs.Cells.{Within, Gained, added, buyers, sellers, traded, nothing_gained, gained_at, gained_then, gained_same, within_gained}

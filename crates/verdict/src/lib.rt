@@ -15,7 +15,7 @@ use market::Totals;
 use stages::{Fault, Place};
 use walk::Walk;
 
-#[derive(Drop)]
+#[derive(Clone, Copy)]
 pub enum Outcome {
     Accepted(Totals),
     Refused(u8, Place),

@@ -15,7 +15,7 @@ use day::Counts;
 use frame::Frame;
 use market::Totals;
 
-#[derive(Drop)]
+#[derive(Clone, Copy)]
 pub enum Walk {
     // Nothing is broken: the counts, and the totals.
     Sure(Counts, Totals),

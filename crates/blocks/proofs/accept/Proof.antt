@@ -11,7 +11,7 @@ use mir.ValLaws.{to_z-of_z}
 use borrow.Author.Rules.{rules}
 use Rattle.whole.specs.Whole.{◌≼◌}
 use Rattle.whole.specs.Ring.{given, linear}
-use Rattle.whole.specs.Size.{abs--, sum-within, fits-i64, same}
+use Rattle.whole.specs.Size.{abs--, sum_within, fits_i64, same}
 use Rattle.stages.specs.First.{apart}
 use Rattle.cells.specs.Cells.{Gained, Within, gained_then, within_gained}
 use Rattle.limits.specs.Limits.{most_periods, most_volume}

@@ -6,7 +6,7 @@ use lib.IntN.{ℤ, pos, nat_abs, ◌+ℤ◌, ◌-ℤ◌, ◌*ℤ◌}
 use mir.Syntax.{w64}
 use mir.Val.{SFits, to_z, of_z}
 use mir.ValLaws.{to_z-of_z, to_z_pos}
-use Rattle.whole.specs.Size.{abs-+, abs--, abs-*-≤, fits-i64}
+use Rattle.whole.specs.Size.{abs-+, abs--, abs-*-≤, fits_i64}
 use Rattle.limits.specs.Limits.{most_price}
 use borrow.Author.Rules.{rules}
 use Rattle.blocks.proofs.surplus_of.Statement.{statement}
