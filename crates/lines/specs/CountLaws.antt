@@ -26,7 +26,7 @@ use Rattle.day.specs.Day.{lines_part}
 use Rattle.day.specs.Good.{prices_most}
 use Rattle.book.specs.Book.{line_at, line_of, forward_of, back_of, floor_of, ceiling_of, prices_of, flow_of, day_of, choice_of}
 use Rattle.book.specs.DayRows.{line_within}
-use Rattle.lines.specs.Sure.{SurePrice, SureLine, LinesCounted, line_gives_lem}
+use Rattle.lines.specs.Sure.{SurePrice, SureLine, LinesCounted, line_gives}
 use Rattle.lines.specs.Counted.{Below, Between, Gathered, FlowSure, carried, Carries, rent_of, FlowAsks, FlowCounted}
 use Rattle.lines.specs.Counted.{EndsSure, LineAsks, PeriodsCounted, LineCounted, LinesAsk, LinesSoFar}
 
@@ -325,7 +325,7 @@ module _ {c : Counts} (day : List ℕ) {clearing : List ℕ} {l : ℕ} {flows₀
       gained_same k.all.flows.gained
       (λ z h _ i. sum_places c.periods h (λ j. line_leaves (day_of c day) (choice_of c clearing) z j l) i)
 
-  line_gives_lem : Gained 1 5 (λ _. line_gives_lem c day clearing l) sums₀ sums₁
+  line_gives_lem : Gained 1 5 (λ _. line_gives c day clearing l) sums₀ sums₁
   unfolding line_of
   line_gives_lem =
       gained_same k.all.sums.gained
@@ -347,7 +347,7 @@ module _ {c : Counts} {day clearing : List ℕ} where
       leaves_within l i z h _ j =
           net_flow_size (line_of c day l).from (line_of c day l).to z (flow_of c clearing l h) (flow_small ((p.sure.each l i).flow_is h j))
 
-      gives_within : (l : ℕ) → l < n → (z k : ℕ) → z < 1 → k < 5 → nat_abs (line_gives_lem c day clearing l k) ≤ 50000000000000
+      gives_within : (l : ℕ) → l < n → (z k : ℕ) → z < 1 → k < 5 → nat_abs (line_gives c day clearing l k) ≤ 50000000000000
       unfolding line_of
       gives_within l i z k _ _ =
           let rents = rent_at (day_of c day) (prices_of c clearing) (choice_of c clearing) l in

@@ -16,7 +16,7 @@ use Rattle.day.specs.Good.{InLimits}
 use Rattle.book.specs.Of.{OfClearing}
 use Rattle.book.specs.Book.{line_at, prices_of, flow_of, day_of, choice_of}
 use Rattle.book.specs.Framed.{Framed, PricesSmall}
-use Rattle.lines.specs.Sure.{SureLine, line_gives_lem}
+use Rattle.lines.specs.Sure.{SureLine, line_gives}
 
 -- what holds at each place below n
 pub record Below (n : ℕ) (P : ℕ → Type 0) : Type 0 where
@@ -132,4 +132,4 @@ module _ (c : Counts) (day clearing : List ℕ) where
     pub within : n ≤ c.lines
     pub sure : Below n (SureLine c day clearing)
     pub flows : Gathered c.zones c.periods (λ l z h. line_leaves (day_of c day) (choice_of c clearing) z h l) n flows₀ flows₁
-    pub sums : Gathered 1 5 (λ l _. line_gives_lem c day clearing l) n sums₀ sums₁
+    pub sums : Gathered 1 5 (λ l _. line_gives c day clearing l) n sums₀ sums₁

@@ -26,11 +26,11 @@ module _ (c : Counts) (day clearing : List ℕ) where
     pub line : (h : ℕ) → h < c.periods → test (day_of c day) (prices_of c clearing) (choice_of c clearing) Line l h ≡ true
 
   -- what a line adds to the five sums: its rent
-  abbrev pub line_gives_lem : ℕ → ℕ → ℤ
-  line_gives_lem l k = at rent (sum c.periods (rent_at (day_of c day) (prices_of c clearing) (choice_of c clearing) l)) k
+  abbrev pub line_gives : ℕ → ℕ → ℤ
+  line_gives l k = at rent (sum c.periods (rent_at (day_of c day) (prices_of c clearing) (choice_of c clearing) l)) k
 
   -- each line is sure, and what they all take from each zone and period, and add to the sums, is counted
   pub record LinesCounted (flows₀ flows₁ sums₀ sums₁ : List ℤ) : Type 0 where
     pub sure : (l : ℕ) → l < c.lines → SureLine l
     pub flows : Gained c.zones c.periods (λ z h. sum c.lines (line_leaves (day_of c day) (choice_of c clearing) z h)) flows₀ flows₁
-    pub sums : Gained 1 5 (λ _ k. sum c.lines (λ l. line_gives_lem l k)) sums₀ sums₁
+    pub sums : Gained 1 5 (λ _ k. sum c.lines (λ l. line_gives l k)) sums₀ sums₁

@@ -47,14 +47,14 @@ abbrev pub rows_by : ℕ → Spot → Section
 rows_by n (Cell i f) = BadRow i f
 rows_by n Nowhere = Rows n
 
-abbrev pub with_rows_lem : ℕ → (ℕ → ℕ → Bool) → Section → Section
-with_rows_lem fields ok (Rows n) = rows_by n (first_cell n fields ok)
-with_rows_lem fields ok CutOff = CutOff
-with_rows_lem fields ok Beyond = Beyond
-with_rows_lem fields ok (BadRow i f) = BadRow i f
+abbrev pub with_rows : ℕ → (ℕ → ℕ → Bool) → Section → Section
+with_rows fields ok (Rows n) = rows_by n (first_cell n fields ok)
+with_rows fields ok CutOff = CutOff
+with_rows fields ok Beyond = Beyond
+with_rows fields ok (BadRow i f) = BadRow i f
 
 unfoldable pub section_of : ℕ → ℕ → ℕ → ℕ → (ℕ → ℕ → Bool) → List ℕ → Section
-section_of least most size fields ok part = with_rows_lem fields ok (head_of least most size part)
+section_of least most size fields ok part = with_rows fields ok (head_of least most size part)
 
 -- ---- an answer is the first fault of the stages
 
@@ -85,7 +85,7 @@ module _ (numbers : Numbers) (number n fields : ℕ) (ok : ℕ → ℕ → Bool)
   rows_fault Nowhere = refl
 
   by_tests : (a b c : Bool) →
-      first_fault (stages_of a b c) ≡ fault_of numbers number (with_rows_lem fields ok (pick a (pick b (pick c (Rows n) CutOff) Beyond) CutOff))
+      first_fault (stages_of a b c) ≡ fault_of numbers number (with_rows fields ok (pick a (pick b (pick c (Rows n) CutOff) Beyond) CutOff))
   by_tests false b c = refl
   by_tests true false c = refl
   by_tests true true false = refl
@@ -153,7 +153,7 @@ found_none : (n m : ℕ) (s : Spot) → rows_by n s ≡ Rows m → n ≡ m
 found_none n m (Cell i f) e = let z : ◌≡◌ {A = ℕ} 0 1 = cc in absurd (omega arith)
 found_none n m Nowhere e = cc
 
-head_of_lem : (fields : ℕ) (ok : ℕ → ℕ → Bool) (x : Section) (n : ℕ) → with_rows_lem fields ok x ≡ Rows n → x ≡ Rows n
+head_of_lem : (fields : ℕ) (ok : ℕ → ℕ → Bool) (x : Section) (n : ℕ) → with_rows fields ok x ≡ Rows n → x ≡ Rows n
 head_of_lem fields ok (Rows m) n e = ap Rows (found_none m n (first_cell m fields ok) e)
 head_of_lem fields ok CutOff n e = cut_read e
 head_of_lem fields ok Beyond n e = beyond_read e
@@ -165,9 +165,9 @@ head_same least most part f e = e ∙ rw f
 
 -- the answer of a reader that has read the head
 pub head_section : (least most size fields : ℕ) (ok : ℕ → ℕ → Bool) (part : List ℕ) {x : Section} → x ≡ head_of least most size part →
-    with_rows_lem fields ok x ≡ section_of least most size fields ok part
+    with_rows fields ok x ≡ section_of least most size fields ok part
 unfolding section_of
-head_section least most size fields ok part e = ap (with_rows_lem fields ok) e
+head_section least most size fields ok part e = ap (with_rows fields ok) e
 
 pub section_read : (least most size fields : ℕ) (ok : ℕ → ℕ → Bool) (part : List ℕ) (n : ℕ) → section_of least most size fields ok part ≡ Rows n →
     Read least most size part n

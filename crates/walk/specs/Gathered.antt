@@ -29,7 +29,7 @@ use Rattle.book.specs.Of.{OfFiles, cell_below as cell_in}
 use Rattle.book.specs.Ranges.{placed, ranged, accepted_size}
 use Rattle.book.specs.Framed.{PricesSmall}
 use Rattle.frame.specs.Opened.{Opened}
-use Rattle.lines.specs.Sure.{SurePrice, SureLine, LinesCounted, line_gives_lem}
+use Rattle.lines.specs.Sure.{SurePrice, SureLine, LinesCounted, line_gives}
 use Rattle.steps.specs.Sure.{SureStep, StepsCounted, counted, brings, gives}
 use Rattle.steps.specs.Count.{brings_size, gives_size}
 use Rattle.blocks.specs.Sure.{SureBlock, BlocksCounted, block_gives}
@@ -70,7 +70,7 @@ module _ (c : Counts) (day clearing : List ℕ) where
     flows_gathered small t = same_tabled small (tabled_gained lines.flows t) (λ z h _ _. rw (+ℤ_idl, net_flow_is d ch z h))
 
     -- one of the sums: what lines, steps and blocks give to it
-    one_sum : s0 ≡ replicate 5 (pos 0) → (k : ℕ) → k < 5 → {x y z : ℤ} → sum c.lines (λ l. line_gives_lem c day clearing l k) ≡ x →
+    one_sum : s0 ≡ replicate 5 (pos 0) → (k : ℕ) → k < 5 → {x y z : ℤ} → sum c.lines (λ l. line_gives c day clearing l k) ≡ x →
         sum c.steps (λ i. gives c day clearing i k) ≡ y → sum c.blocks (λ j. block_gives c day clearing j k) ≡ z → get_or s3 k (pos 0) ≡ x +ℤ (y +ℤ z)
     one_sum e k l {x} {y} {z} a b g =
         let none : get_or s0 k (pos 0) ≡ pos 0 = rw e (get_or-replicate 5 k (pos 0) (pos 0) l) in
@@ -80,7 +80,7 @@ module _ (c : Counts) (day clearing : List ℕ) where
         rw (last, third, second, none) (simp linear (omega arith))
 
     -- one that lines give nothing to, and steps and blocks what is counted of them
-    one_measure : s0 ≡ replicate 5 (pos 0) → (m : Measure) (k : ℕ) → k < 5 → ((l : ℕ) → line_gives_lem c day clearing l k ≡ pos 0) →
+    one_measure : s0 ≡ replicate 5 (pos 0) → (m : Measure) (k : ℕ) → k < 5 → ((l : ℕ) → line_gives c day clearing l k ≡ pos 0) →
         ((i : ℕ) → gives c day clearing i k ≡ counted c day clearing m i) →
         ((j : ℕ) → block_gives c day clearing j k ≡ block_measured d p m j (ch.ratio j)) → get_or s3 k (pos 0) ≡ market.accepted d ch (priced m p)
     one_measure e m k l a b g =
@@ -116,7 +116,7 @@ no_sum_within {sums} e bound z k l j =
     rw (none, zero-add k, e, get_or-replicate 5 k (pos 0) (pos 0) j) (omega arith)
 
 module _ {day clearing : List ℕ} {c : Counts} (limits : InLimits c) (prices : PricesSmall c clearing) where
-  line_gives_within : {l : ℕ} → SureLine c day clearing l → (k : ℕ) → nat_abs (line_gives_lem c day clearing l k) ≤ 50000000000000
+  line_gives_within : {l : ℕ} → SureLine c day clearing l → (k : ℕ) → nat_abs (line_gives c day clearing l k) ≤ 50000000000000
   unfolding line_of
   line_gives_within {l} s k =
       let ends = line_of c day l in
@@ -132,7 +132,7 @@ module _ {day clearing : List ℕ} {c : Counts} (limits : InLimits c) (prices : 
   lines_within a w z k l j =
       le_trans
       (within_gained a.sums w (λ _ s _ _.
-      sum_within c.lines 16 (λ l. line_gives_lem c day clearing l s) 50000000000000 limits.lines_most (λ i m. line_gives_within (a.sure i m) s)) z k l j)
+      sum_within c.lines 16 (λ l. line_gives c day clearing l s) 50000000000000 limits.lines_most (λ i m. line_gives_within (a.sure i m) s)) z k l j)
       (omega arith)
 
   module _ {n0 n1 s1 s2 : List ℤ} (a : StepsCounted c day clearing c.steps n0 n1 s1 s2) where

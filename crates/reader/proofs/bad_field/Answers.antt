@@ -1,0 +1,12 @@
+-- `reader::bad_field` meets its contract: the rows before i obey their rule. Assumes nothing.
+use Rattle.std.proofs.Common.{sym, ◌∙◌, ◌-◌, arith}
+use Rattle.stages.specs.Table.{row_fails}
+use Rattle.reader.proofs.bad_field.Goals as goal
+
+pub returns-in-At : goal.returns-in-At
+returns-in-At c =
+    row_fails c.loop-i.invariant.1 (sym c.in-At.is ∙ c.row_field.ensures) c.loop-i-test.true
+
+-- ?? add-i
+-- add-i : tie.Need-overflow-add-i invariant-loop decreases-loop
+-- add-i c = omega arith
