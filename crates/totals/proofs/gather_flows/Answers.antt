@@ -1,0 +1,20 @@
+-- `totals::gather_flows` meets its contract. The loop's invariant: the table holds what the lines passed carry away. Assumes nothing.
+use Rattle.std.proofs.Common.{◌-◌, le_antisymm, arith, sym, ◌∙◌}
+use Rattle.totals.specs.Gather.{no_line_yet, flows_gathered}
+use Rattle.totals.proofs.gather_flows.Goals as goal
+
+pub loop-line-init : goal.loop-line-init
+loop-line-init c = (omega arith, no_line_yet c.requires.of_files c.requires.tabled)
+
+-- ?? add-line
+-- add-line : tie.Need-overflow-add-line invariant-loop decreases-loop
+-- add-line c = omega arith
+
+-- ?? same_length
+-- same_length : tie.Need-same-length invariant-loop decreases-loop
+-- same_length c = c.before.loop.invariant.1.long ∙ sym c.before.before.before.before.requires.1.long
+
+pub returns : goal.returns
+returns c =
+    let o = c.requires.of_files in
+    flows_gathered o (rw (le_antisymm c.loop-line.invariant.0 c.loop-line-test.false) at c.loop-line.invariant.1)
