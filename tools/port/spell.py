@@ -26,6 +26,8 @@ COMMENT = re.compile(r"(?:(?<=\s)|^)--(?=\s|$)[^\n]*", re.M)
 LEMMAS = {"line_gives", "with_rows"}
 # Definitions of two crates that come to one name and meet in no file.
 APART = {"inRow", "stepRow"}
+# Fields of records, which meet a definition of their name in no file's scope.
+FIELDS = {"of-clearing", "block-quantity", "block-zone", "step-period", "step-zone", "block-rule", "step-rule", "ratio-ok"}
 # Names that are declared with no type on their line.
 MORE = ("fault-bad", "fault-good", "none-gained", "r-fits")
 
@@ -82,7 +84,7 @@ def table(root):
     for word, olds in sorted(taken.items()):
         if len(olds) > 1:
             lemmas = [n for n in olds if "-" in n] or [n for n in olds if n in LEMMAS]
-            if len(olds) == 2 and set(olds) & APART:
+            if len(olds) == 2 and set(olds) & (APART | FIELDS):
                 continue
             if len(olds) != 2 or len(lemmas) != 1:
                 sys.exit(f"spell: these fall together as {word}: {olds}")

@@ -129,7 +129,7 @@ module _ (c : Counts) (day clearing : List ℕ) (k : ℕ) where
   pub record Tested (all worth bits : ℕ) : Type 0 where
     pub head : HeadRow c.zones (blocks_part day) start
     pub ratio_is : ratio_of clearing k ≤ most_ratio
-    pub ratio_ok_lem : ratio_ok (block_at (blocks_part day) start).least (ratio_of clearing k) ≡ true
+    pub ratio_ok : ratio_ok (block_at (blocks_part day) start).least (ratio_of clearing k) ≡ true
     pub walked : WalkedTo (block_quantity (blocks_part day) start) (prices_of c clearing (block_at (blocks_part day) start).zone) c.periods all worth bits
     pub bits_small : bits ≤ most_volume
     pub some : 0 < all
@@ -163,7 +163,7 @@ module _ (c : Counts) (day clearing : List ℕ) (k : ℕ) where
     sure whole pays = record {
       row = tested_row;
       ratio_is = t.ratio_is;
-      ratio = t.ratio_ok_lem;
+      ratio = t.ratio_ok;
       whole = whole;
       block = rw surplus_is pays;
     }
@@ -224,7 +224,7 @@ module _ (c : Counts) (day clearing : List ℕ) (k : ℕ) where
     tested =
         read_as r (λ part at b ratio. HeadRow c.zones part at → ratio ≤ most_ratio → ratio_ok b.least ratio ≡ true →
         WalkedTo (block_quantity part at) (prices_of c clearing b.zone) c.periods all worth bits → bits ≤ most_volume → 0 < all → Tested all worth bits)
-        (λ head most ok walked small some. record { head = head; ratio_is = most; ratio_ok_lem = ok; walked = walked; bits_small = small; some = some })
+        (λ head most ok walked small some. record { head = head; ratio_is = most; ratio_ok = ok; walked = walked; bits_small = small; some = some })
 
     module _ (t : Tested all worth bits) where
       pub surplus_small : PricesSmall c clearing → c.periods ≤ most_periods → nat_abs (surplus_by b.side b.limit all worth) ≤ 50000000000000

@@ -9,7 +9,7 @@ use Rattle.book.specs.Of.{OfClearing}
 
 pub record Framed (day clearing : List ℕ) (c : Counts) : Type 0 where
   pub of_day : OfDay day c
-  pub of_clearing_lem : OfClearing clearing c
+  pub of_clearing : OfClearing clearing c
 
 abbrev pub PricesSmall : Counts → List ℕ → Type 0
 PricesSmall c clearing = (zone period : ℕ) → zone < c.zones → period < c.periods → nat_abs (prices_of c clearing zone period) ≤ most_price

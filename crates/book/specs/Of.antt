@@ -21,7 +21,7 @@ pub record OfClearing (clearing : List ℕ) (c : Counts) : Type 0 where
 -- both files read without fault
 pub record OfFiles (day clearing : List ℕ) (c : Counts) : Type 0 where
   pub of_day : OfDay day c
-  pub of_clearing_lem : OfClearing clearing c
+  pub of_clearing : OfClearing clearing c
   pub good_day : GoodDay day
   pub good_clearing : GoodClearing c clearing
 
@@ -29,7 +29,7 @@ pub record OfFiles (day clearing : List ℕ) (c : Counts) : Type 0 where
 pub of_files : {day clearing : List ℕ} → GoodDay day → GoodClearing (counts day) clearing → OfFiles day clearing (counts day)
 of_files d c = record {
   of_day = record { framed = framed_day d; counted = refl };
-  of_clearing_lem = record { framed = framed_clearing c; limits = in_limits d };
+  of_clearing = record { framed = framed_clearing c; limits = in_limits d };
   good_day = d;
   good_clearing = c;
 }

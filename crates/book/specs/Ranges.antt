@@ -44,12 +44,12 @@ placed_own g = record {
   line_to = λ l b. (good_line g b).to_is;
   forward_least = λ l h _ _. pos_least _;
   back_least = λ l h _ _. pos_least _;
-  step_zone_lem = λ i b. (good_step g b).zone_is;
-  step_period_lem = λ i b. (good_step g b).period_is;
+  step_zone = λ i b. (good_step g b).zone_is;
+  step_period = λ i b. (good_step g b).period_is;
   step_limit = λ i b. price_size (good_step g b).price_is;
-  block_zone_lem = λ k b. (good_block g b).zone_is;
+  block_zone = λ k b. (good_block g b).zone_is;
   block_limit = λ k b. price_size (good_block g b).price_is;
-  block_quantity_lem = λ k h b. (good_block g b).quantity_is h;
+  block_quantity = λ k h b. (good_block g b).quantity_is h;
 }
 
 pub placed : {day clearing : List ℕ} {c : Counts} → OfFiles day clearing c → Placed (day_of c day)

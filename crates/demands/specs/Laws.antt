@@ -152,7 +152,7 @@ module _ {day clearing : List ℕ} (o : OfFiles day clearing (counts day)) where
     shortfall_stated = shortfall_read (totals d p c) net n rest shortfall_fits
 
     pub count_stated : u16_at bytes 50 ≡ d.zones * d.periods
-    count_stated = count_read (totals d p c) net n rest (omega (arith, prices_most o.of_clearing_lem.limits))
+    count_stated = count_read (totals d p c) net n rest (omega (arith, prices_most o.of_clearing.limits))
 
     pub net_stated : Lawful d p c → (zone period : ℕ) → zone < d.zones → period < d.periods →
         i32_at bytes (52 + 4 * (zone * d.periods + period)) ≡ net_position d c zone period

@@ -144,7 +144,7 @@ opened day clearing c (Framed k) d (p, (f, (v, (r, (same, ended))))) =
     subst (Opened day clearing) same (record {
       framed = record {
         of_day = of_day day c d;
-        of_clearing_lem = record {
+        of_clearing = record {
           framed = record { prices_head = p; flows_head = f; volumes_head = v; ratios_head = r; no_more = ended };
           limits = in_limits day c d;
         };

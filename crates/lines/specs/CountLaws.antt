@@ -182,7 +182,7 @@ module _ {c : Counts} {clearing : List ℕ} {l h : ℕ} {ends : Line} {flows sum
 
     pub flow_carries : Carries c ends h flow flows
     flow_carries = record {
-      limits = a.of_clearing_lem.limits;
+      limits = a.of_clearing.limits;
       from_is = a.from_is;
       to_is = a.to_is;
       period_is = a.period_is;
@@ -265,11 +265,11 @@ module _ {c : Counts} {clearing part : List ℕ} {at l : ℕ} where
           (a.prices (from part at) h g.from_is j) (a.prices (to part at) h g.to_is j))
 
       few : n ≤ most_periods
-      few = le_trans p.within a.of_clearing_lem.limits.periods_most
+      few = le_trans p.within a.of_clearing.limits.periods_most
 
       pub period_asks : FlowAsks c clearing l n ends flows₁ sums₁
       period_asks = record {
-        of_clearing_lem = a.of_clearing_lem;
+        of_clearing = a.of_clearing;
         prices = a.prices;
         line_is = a.line_is;
         period_is = m;
@@ -354,17 +354,17 @@ module _ {c : Counts} {day clearing : List ℕ} where
           let s = p.sure.each l i in
           let ends = line_of c day l in
           le_trans (at_size rent (sum c.periods rents) k)
-          (sum_within c.periods most_periods rents 2000000000000 a.framed.of_clearing_lem.limits.periods_most
+          (sum_within c.periods most_periods rents 2000000000000 a.framed.of_clearing.limits.periods_most
           (λ h j. rent_small (flow_of c clearing l h) (prices_of c clearing ends.from h) (prices_of c clearing ends.to h)
           (flow_small (s.flow_is h j)) (a.prices ends.from h s.row.from_is j) (a.prices ends.to h s.row.to_is j)))
 
       few_lines : n ≤ most_lines
-      few_lines = le_trans p.within a.framed.of_clearing_lem.limits.lines_most
+      few_lines = le_trans p.within a.framed.of_clearing.limits.lines_most
 
       module _ {part : List ℕ} {at : ℕ} (q : part ≡ lines_part day) (e : at ≡ row_start Lines c.periods n) where
         pub line_asks : at < 4294967296 → LineAsks c clearing part at n flows₁ sums₁
         line_asks starts = record {
-          of_clearing_lem = a.framed.of_clearing_lem;
+          of_clearing = a.framed.of_clearing;
           prices = a.prices;
           line_is = m;
           starts = starts;

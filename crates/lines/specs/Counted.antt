@@ -62,7 +62,7 @@ module _ (c : Counts) (clearing : List ℕ) where
 
   -- what is asked to count it
   pub record FlowAsks (l h : ℕ) (ends : Line) (flows sums : List ℤ) : Type 0 where
-    pub of_clearing_lem : OfClearing clearing c
+    pub of_clearing : OfClearing clearing c
     pub prices : PricesSmall c clearing
     pub line_is : l < c.lines
     pub period_is : h < c.periods
@@ -89,7 +89,7 @@ pub record EndsSure (c : Counts) (part : List ℕ) (at : ℕ) : Type 0 where
 module _ (c : Counts) (clearing part : List ℕ) (at l : ℕ) where
   -- what is asked to count it
   pub record LineAsks (flows sums : List ℤ) : Type 0 where
-    pub of_clearing_lem : OfClearing clearing c
+    pub of_clearing : OfClearing clearing c
     pub prices : PricesSmall c clearing
     pub line_is : l < c.lines
     pub starts : at < 4294967296

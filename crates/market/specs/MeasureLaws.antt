@@ -151,7 +151,7 @@ module _ (d : Day) (p : Prices) (c : Choice) (placed : Placed d) (ranged : Range
   pub step_small : (i : ℕ) → i < d.steps → Small (step_trade (d.step i) (c.volume i)) (p (d.step i).zone (d.step i).period)
   step_small i l = record {
     limit_small = placed.step_limit i l;
-    price_small = ranged.price _ _ (placed.step_zone_lem i l) (placed.step_period_lem i l);
+    price_small = ranged.price _ _ (placed.step_zone i l) (placed.step_period i l);
     volume_small = ranged.volume i l;
   }
 
@@ -159,8 +159,8 @@ module _ (d : Day) (p : Prices) (c : Choice) (placed : Placed d) (ranged : Range
       Small (block_trade (d.block k) h (block_volume ratio (d.quantity k h))) (p (d.block k).zone h)
   block_small k h ratio l n r = record {
     limit_small = placed.block_limit k l;
-    price_small = ranged.price _ _ (placed.block_zone_lem k l) n;
-    volume_small = volume_most ratio (d.quantity k h) r (placed.block_quantity_lem k h l n);
+    price_small = ranged.price _ _ (placed.block_zone k l) n;
+    volume_small = volume_most ratio (d.quantity k h) r (placed.block_quantity k h l n);
   }
 
   module _ (m : Measure) where

@@ -16,12 +16,12 @@ pub record Placed (d : Day) : Type 0 where
   pub line_to : (l : ℕ) → l < d.lines → (d.line l).to < d.zones
   pub forward_least : (l h : ℕ) → l < d.lines → h < d.periods → pos 0 ≼ d.forward l h
   pub back_least : (l h : ℕ) → l < d.lines → h < d.periods → pos 0 ≼ d.back l h
-  pub step_zone_lem : (i : ℕ) → i < d.steps → (d.step i).zone < d.zones
-  pub step_period_lem : (i : ℕ) → i < d.steps → (d.step i).period < d.periods
+  pub step_zone : (i : ℕ) → i < d.steps → (d.step i).zone < d.zones
+  pub step_period : (i : ℕ) → i < d.steps → (d.step i).period < d.periods
   pub step_limit : (i : ℕ) → i < d.steps → nat_abs (d.step i).limit ≤ most_price
-  pub block_zone_lem : (k : ℕ) → k < d.blocks → (d.block k).zone < d.zones
+  pub block_zone : (k : ℕ) → k < d.blocks → (d.block k).zone < d.zones
   pub block_limit : (k : ℕ) → k < d.blocks → nat_abs (d.block k).limit ≤ most_price
-  pub block_quantity_lem : (k h : ℕ) → k < d.blocks → h < d.periods → d.quantity k h ≤ most_volume
+  pub block_quantity : (k h : ℕ) → k < d.blocks → h < d.periods → d.quantity k h ≤ most_volume
 
 -- prices and a choice for it
 pub record Ranged (d : Day) (p : Prices) (c : Choice) : Type 0 where

@@ -104,9 +104,9 @@ module _ (d : Day) (p : Prices) (c : Choice) where
         ratio_rule = λ k l. (rule_holds Ratio).0 (h Ratio) k 0 l (omega arith);
         whole_rule = (rule_holds Whole).0 (h Whole);
         balance_rule = (rule_holds Balance).0 (h Balance);
-        step_rule_lem = λ i l. (rule_holds Step).0 (h Step) i 0 l (omega arith);
+        step_rule = λ i l. (rule_holds Step).0 (h Step) i 0 l (omega arith);
         line_rule = (rule_holds Line).0 (h Line);
-        block_rule_lem = λ k l. (rule_holds Block).0 (h Block) k 0 l (omega arith);
+        block_rule = λ k l. (rule_holds Block).0 (h Block) k 0 l (omega arith);
       }
 
       holds : Lawful d p c → (rule : Rule) → Holds (rule_stage d p c rule)
@@ -116,9 +116,9 @@ module _ (d : Day) (p : Prices) (c : Choice) where
       holds h Ratio = (rule_holds Ratio).1 (λ k _ l _. h.ratio_rule k l)
       holds h Whole = (rule_holds Whole).1 h.whole_rule
       holds h Balance = (rule_holds Balance).1 h.balance_rule
-      holds h Step = (rule_holds Step).1 (λ i _ l _. h.step_rule_lem i l)
+      holds h Step = (rule_holds Step).1 (λ i _ l _. h.step_rule i l)
       holds h Line = (rule_holds Line).1 h.line_rule
-      holds h Block = (rule_holds Block).1 (λ k _ l _. h.block_rule_lem k l)
+      holds h Block = (rule_holds Block).1 (λ k _ l _. h.block_rule k l)
 
   -- the rules that speak of no price
   abbrev priceless : List Stage

@@ -102,9 +102,9 @@ module _ (d : Day) (p : Prices) (c : Choice) where
     pub ratio_rule : KeepsLeastRatios d c
     pub whole_rule : WholeVolumes d c
     pub balance_rule : Balanced d c
-    pub step_rule_lem : (i : ℕ) → i < d.steps → StepAt i
+    pub step_rule : (i : ℕ) → i < d.steps → StepAt i
     pub line_rule : (l period : ℕ) → l < d.lines → period < d.periods → LineAt l period
-    pub block_rule_lem : (k : ℕ) → k < d.blocks → BlockAt k
+    pub block_rule : (k : ℕ) → k < d.blocks → BlockAt k
 
 -- ==== the tests
 

@@ -52,8 +52,8 @@ module _ (d : Day) (p : Prices) where
     unfolding surpluses whole
     priced c =
         simp (surplus-⊕, surplus_all) (rw (
-          sum_cong d.steps _ (step_surplus d p c) (λ i l. step_priced d p c i (placed.step_zone_lem i l) (placed.step_period_lem i l)),
-          sum_cong d.blocks _ (block_surplus d p c) (λ k l. block_priced d p c k (placed.block_zone_lem k l)),
+          sum_cong d.steps _ (step_surplus d p c) (λ i l. step_priced d p c i (placed.step_zone i l) (placed.step_period i l)),
+          sum_cong d.blocks _ (block_surplus d p c) (λ k l. block_priced d p c k (placed.block_zone k l)),
           sum_cong d.lines _ (line_rent d p c) (λ l n. line_priced d p c l (placed.line_from l n) (placed.line_to l n)),
         ))
 
@@ -73,7 +73,7 @@ module _ (d : Day) (p : Prices) where
       unfolding surpluses
       best_but_for part blocks =
           rw (← come_to_value other allowed.balance, ← come_to_value c lawful.balance_rule)
-          (given (sum_mono d.steps _ _ (λ i l. step_best d p c other i (lawful.step_rule_lem i l) (allowed.quantities i l)))
+          (given (sum_mono d.steps _ _ (λ i l. step_best d p c other i (lawful.step_rule i l) (allowed.quantities i l)))
           (given (sum_mono d.lines _ _ (λ l n. line_best d p c other l (λ h. lawful.line_rule l h n) (λ h. allowed.capacities l h n)))
           (given (simp sum-+ at (sum_mono d.blocks _ _ blocks)) (simp linear (omega arith)))))
 
@@ -83,7 +83,7 @@ module _ (d : Day) (p : Prices) where
       unfolding shortfall
       no_better =
           best_but_for (missed d p c)
-          (λ k l. block_best d p c other k (lawful.block_rule_lem k l) (allowed.ratios_most k l) (λ h. allowed.whole k h l))
+          (λ k l. block_best d p c other k (lawful.block_rule k l) (allowed.ratios_most k l) (λ h. allowed.whole k h l))
 
       pub no_better_with_same_blocks : SameBlocks d c other → order_value d other ≼ order_value d c
       no_better_with_same_blocks same =

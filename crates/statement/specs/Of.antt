@@ -55,7 +55,7 @@ module _ {day clearing : List ℕ} {c : Counts} (o : OfFiles day clearing c) (k 
   pub flow_row_fits : SFits w32 (flow_row c day clearing k)
   flow_row_fits =
       let h = c.periods in
-      let below = row_period k o.of_clearing_lem.limits.periods_least in
+      let below = row_period k o.of_clearing.limits.periods_least in
       let size = flows_size _ _ _ (placed o) (ranged o) c.lines (k / h) (k % h) (le_refl c.lines) below in
       let is = net_flow_is (day_of c day) (choice_of c clearing) (k / h) (k % h) in
       fits_i32 (flow_row c day clearing k) (rw (← is) (omega (arith, size)))
@@ -63,7 +63,7 @@ module _ {day clearing : List ℕ} {c : Counts} (o : OfFiles day clearing c) (k 
   -- in a balanced clearing a net position is what the lines carry away
   pub flow_row_is : Balanced (day_of c day) (choice_of c clearing) → k < net_count c → flow_row c day clearing k ≡ net_row c day clearing k
   flow_row_is b l =
-      let least = o.of_clearing_lem.limits.periods_least in
+      let least = o.of_clearing.limits.periods_least in
       sym (b (k / c.periods) (k % c.periods) (row_zone l least) (row_period k least))
 
 -- ---- a table of the net positions
@@ -72,7 +72,7 @@ module _ {day clearing : List ℕ} {c : Counts} (o : OfFiles day clearing c) {ta
     (t : Tabled c.zones c.periods (net_position (day_of c day) (choice_of c clearing)) table) where
   -- its cells, one after the other
   table_row : (k : ℕ) → k < net_count c → get_or table k (pos 0) ≡ net_row c day clearing k
-  table_row k l = let limits = o.of_clearing_lem.limits in row_tabled (prices_most limits) t limits.periods_least l
+  table_row k l = let limits = o.of_clearing.limits in row_tabled (prices_most limits) t limits.periods_least l
 
   pub table_fits : Balanced (day_of c day) (choice_of c clearing) → (k : ℕ) → k < net_count c → SFits w32 (get_or table k (pos 0))
   table_fits b k l = rw (table_row k l, ← flow_row_is o k b l) (flow_row_fits o k)

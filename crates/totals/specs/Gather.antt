@@ -125,7 +125,7 @@ below_most l = omega arith
 
 module _ {day clearing : List ℕ} {c : Counts} (o : OfFiles day clearing c) where
   pub cells_most : c.zones * c.periods ≤ 200
-  cells_most = prices_most o.of_clearing_lem.limits
+  cells_most = prices_most o.of_clearing.limits
 
   -- a table of these two files
   abbrev Holds : (ℕ → ℕ → ℤ) → List ℤ → Type 0
@@ -144,8 +144,8 @@ module _ {day clearing : List ℕ} {c : Counts} (o : OfFiles day clearing c) whe
       let p = placed o in
       let t = step_trade day clearing i in
       record {
-        zone_is = p.step_zone_lem i l;
-        period_is = p.step_period_lem i l;
+        zone_is = p.step_zone i l;
+        period_is = p.step_period i l;
         more = λ z h _ _. rw (sum_next, step_brings z h i);
         size = omega (arith, steps_size _ _ _ p (ranged o) (Net t.zone t.period) (i + 1) (next_most l));
       }
@@ -179,7 +179,7 @@ module _ {day clearing : List ℕ} {c : Counts} (o : OfFiles day clearing c) whe
       let ratio = (choice_of c clearing).ratio k in
       let t = block_trade c day clearing k h ratio in
       record {
-        zone_is = p.block_zone_lem k l;
+        zone_is = p.block_zone k l;
         period_is = j;
         more = λ z i _ _. rw (sum_next, period_brings z i k h) (simp linear (omega arith));
         size = omega (

@@ -19,7 +19,7 @@ abbrev pub priced_in : List ℕ → Counts → Measure → Trade → ℤ
 priced_in clearing c m t = priced m (prices_of c clearing) t
 
 pub record Priceable (clearing : List ℕ) (c : Counts) (t : Trade) : Type 0 where
-  pub of_clearing_lem : OfClearing clearing c
+  pub of_clearing : OfClearing clearing c
   pub zone_is : t.zone < c.zones
   pub period_is : t.period < c.periods
   pub small : Small t (prices_of c clearing t.zone t.period)

@@ -73,8 +73,8 @@ module _ {day clearing : List ℕ} {c : Counts} (a : AllSure day clearing c) whe
   good_clearing_is : GoodClearing c clearing
   unfolding prices_of flow_of volume_of ratio_of step_of
   good_clearing_is =
-      let f = a.opened.framed.of_clearing_lem.framed in
-      let least = a.opened.framed.of_clearing_lem.limits.periods_least in
+      let f = a.opened.framed.of_clearing.framed in
+      let least = a.opened.framed.of_clearing.limits.periods_least in
       good_clearing f
       (λ i b.
       let at = cell_of c.zones least (rw (le_antisymm f.prices_head.at_most f.prices_head.at_least) at b) in
@@ -96,7 +96,7 @@ module _ {day clearing : List ℕ} {c : Counts} (a : AllSure day clearing c) whe
   pub files_are : OfFiles day clearing c
   files_are = record {
     of_day = a.opened.framed.of_day;
-    of_clearing_lem = a.opened.framed.of_clearing_lem;
+    of_clearing = a.opened.framed.of_clearing;
     good_day = good_day_is;
     good_clearing = good_clearing_is;
   }
@@ -112,7 +112,7 @@ module _ {day clearing : List ℕ} {c : Counts} (a : AllSure day clearing c) whe
         ratio_rule = λ k l. (obeys Ratio k 0).0 (a.blocks k l).ratio;
         whole_rule = λ k h l n. (obeys Whole k h).0 ((a.blocks k l).whole h n);
         balance_rule = b;
-        step_rule_lem = λ i l. (obeys Step i 0).0 (a.steps i l).step;
+        step_rule = λ i l. (obeys Step i 0).0 (a.steps i l).step;
         line_rule = λ l h i k. (obeys Line l h).0 ((a.lines l i).line h k);
-        block_rule_lem = λ k l. (obeys Block k 0).0 (a.blocks k l).block;
+        block_rule = λ k l. (obeys Block k 0).0 (a.blocks k l).block;
       }

@@ -15,19 +15,15 @@ pub block_volume-volume-requires : goal.block_volume-volume-requires
 block_volume-volume-requires c =
     let p = c.requires.of_files in (
       rw c.ratio_of-ratio.ensures ((ranged p.0).ratio _ p.1),
-      rw c.quantity_of.ensures ((placed p.0).block_quantity_lem _ _ p.1 c.loop-period-test.true),
+      rw c.quantity_of.ensures ((placed p.0).block_quantity _ _ p.1 c.loop-period-test.true),
     )
 
-trade : (c : After-block_trade invariant-loop decreases-loop) →
-    let period = c.before.before.before.before in
-    let a = period.before.before.before.before.before.args in
-    c.block-trade.result
-    ≡ block_trade a.counts a.day.now a.clearing.now a.row period.loop.period (ratio_of a.clearing.now a.row)
+trade : (c : After-block_trade) → let a = c.args in
+    c.block_trade.result
+    ≡ block_trade a.counts a.day.now a.clearing.now a.row c.loop-period.period (ratio_of a.clearing.now a.row)
 trade c =
-    let quantity = c.before.before in
-    let ratio = quantity.before.before.before in
-    c.block-trade.ensures
-    ∙ rw (c.before.block-volume.ensures, quantity.quantity-of.ensures, ratio.ratio-of.ensures, ratio.before.Block-of.ensures)
+    c.block_trade.ensures
+    ∙ rw (c.block_volume-volume.ensures, c.quantity_of.ensures, c.ratio_of-ratio.ensures, c.block_of-block.ensures)
 
 pub add_trade-requires : goal.add_trade-requires
 add_trade-requires c =
@@ -35,23 +31,13 @@ add_trade-requires c =
     let most = cells_most p.0 in
     let t = c.loop-period.invariant.1 in
     let next = period_next p.0 p.1 c.loop-period-test.true in
-    rw (trade (goal.at.add_trade-requires c).After-block_trade) ((t.long, next_below most next), next_fits most next t)
-
--- ?? add-period
--- add-period : tie.Need-overflow-add-period invariant-loop decreases-loop
--- add-period c =
---     let s = c.before.before.before.before.before.before.before.before.before.before.before.before in
---     record { fits = omega (arith, s.requires.0.0.of_clearing_lem.limits.periods_most) }
+    rw (trade (goal.at.add_trade-requires c).After-block_trade) (record { nets_len = (t.long, next_below most next); sfits = next_fits most next t })
 
 pub loop-period-preserved : goal.loop-period-preserved
 loop-period-preserved c =
     let p = c.requires.of_files in
     let next = period_next p.0 p.1 c.loop-period-test.true in
     (omega arith, rw (c.add_trade.ensures, trade (goal.at.loop-period-preserved c).After-block_trade) (next_tabled (cells_most p.0) next c.loop-period.invariant.1))
-
--- ?? same_length
--- same_length : tie.Need-same-length invariant-loop decreases-loop
--- same_length c = c.before.loop.invariant.1.long ∙ sym c.before.before.before.before.before.before.requires.1.long
 
 pub returns : goal.returns
 returns c =

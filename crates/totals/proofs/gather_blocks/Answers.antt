@@ -6,10 +6,3 @@ use Rattle.totals.proofs.gather_blocks.Goals as goal
 pub loop-row-init : goal.loop-row-init
 loop-row-init c = (omega arith, no_block_yet c.requires.of_files c.requires.tabled)
 
--- ?? add_row
--- add_row : tie.Need-overflow-add-row invariant-loop decreases-loop
--- add_row c = omega arith
-
--- ?? same_length
--- same_length : tie.Need-same-length invariant-loop decreases-loop
--- same_length c = c.before.loop.invariant.1.long ∙ sym c.before.before.before.before.requires.1.long

@@ -6,14 +6,6 @@ use Rattle.totals.proofs.gather_flows.Goals as goal
 pub loop-line-init : goal.loop-line-init
 loop-line-init c = (omega arith, no_line_yet c.requires.of_files c.requires.tabled)
 
--- ?? add-line
--- add-line : tie.Need-overflow-add-line invariant-loop decreases-loop
--- add-line c = omega arith
-
--- ?? same_length
--- same_length : tie.Need-same-length invariant-loop decreases-loop
--- same_length c = c.before.loop.invariant.1.long ∙ sym c.before.before.before.before.requires.1.long
-
 pub returns : goal.returns
 returns c =
     let o = c.requires.of_files in

@@ -1,4 +1,4 @@
-use Rattle.std.proofs.Common.{◌-◌, ◌≤◌}
+use Rattle.std.proofs.Common.{◌≤◌}
 use Rattle.cells.specs.Cells.{Tabled}
 use Rattle.totals.specs.Gather.{after_lines}
 use Rattle.totals.proofs.gather_flows.Given as goal
@@ -6,5 +6,3 @@ use Rattle.totals.proofs.gather_flows.Given as goal
 abbrev pub invariant-loop-line : goal.invariant-loop-line
 invariant-loop-line l = (l.line ≤ l.counts.lines) × Tabled l.counts.zones l.counts.periods (after_lines l.counts l.day l.clearing l.line) l.flows
 
-abbrev pub decreases-loop-line : goal.decreases-loop-line
-decreases-loop-line l = l.counts.lines - l.line

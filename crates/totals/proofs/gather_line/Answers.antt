@@ -11,11 +11,8 @@ use Rattle.totals.proofs.gather_line.Goals.{After-flow_of}
 pub loop-period-init : goal.loop-period-init
 loop-period-init c = (omega arith, no_flow_yet c.requires.of_files.0 c.args.line c.requires.tabled)
 
-flow_is : (c : After-flow_of invariant-loop decreases-loop) →
-    let period = c.before.before in
-    let a = period.before.before.before.before.args in
-    to_z w64 (of_z w64 c.flow-of.result) ≡ flow_of a.counts a.clearing.now a.line period.loop.period
-flow_is c = same c.flow-of.result c.flow-of.type_inv ∙ c.flow-of.ensures
+flow_is : (c : After-flow_of) → to_z w64 (of_z w64 c.flow_of.result) ≡ flow_of c.args.counts c.args.clearing.now c.args.line c.loop-period.period
+flow_is c = same c.flow_of.result c.flow_of.type_inv ∙ c.flow_of.ensures
 
 pub add_flow-requires : goal.add_flow-requires
 add_flow-requires c =
@@ -24,14 +21,12 @@ add_flow-requires c =
     let t = c.loop-period.invariant.1 in
     let from = from_next p.0 p.1 c.loop-period-test.true in
     let to = to_next p.0 p.1 c.loop-period-test.true in
-    rw (flow_is (goal.at.add_flow-requires c).After-flow_of, c.Line-of.ensures) (
-      (t.long, (next_below most from, next_below most to)),
-      ((ranged p.0).flow _ _ p.1 c.loop-period-test.true, (next_fits most from t, next_fits most to (next_tabled most from t))),
-    )
-
--- ?? add-period
--- add-period : tie.Need-overflow-add-period invariant-loop decreases-loop
--- add-period c = omega arith
+    rw (flow_is (goal.at.add_flow-requires c).After-flow_of, c.line_of-ends.ensures) (record {
+      flows_len = (t.long, (next_below most from, next_below most to));
+      flow_bound = (ranged p.0).flow _ _ p.1 c.loop-period-test.true;
+      sfits = next_fits most from t;
+      sfits_2 = next_fits most to (next_tabled most from t);
+    })
 
 pub loop-period-preserved : goal.loop-period-preserved
 loop-period-preserved c =
@@ -40,11 +35,7 @@ loop-period-preserved c =
     let t = c.loop-period.invariant.1 in
     let from = from_next p.0 p.1 c.loop-period-test.true in
     let to = to_next p.0 p.1 c.loop-period-test.true in
-    (omega arith, rw (c.add_flow.ensures, flow_is (goal.at.loop-period-preserved c).After-flow_of, c.Line-of.ensures) (next_tabled most to (next_tabled most from t)))
-
--- ?? same_length
--- same_length : tie.Need-same-length invariant-loop decreases-loop
--- same_length c = c.before.loop.invariant.1.long ∙ sym c.before.before.before.before.before.requires.1.long
+    (omega arith, rw (c.add_flow.ensures, flow_is (goal.at.loop-period-preserved c).After-flow_of, c.line_of-ends.ensures) (next_tabled most to (next_tabled most from t)))
 
 pub returns : goal.returns
 returns c =

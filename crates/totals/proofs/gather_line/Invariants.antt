@@ -1,4 +1,4 @@
-use Rattle.std.proofs.Common.{◌-◌, ◌≤◌}
+use Rattle.std.proofs.Common.{◌≤◌}
 use Rattle.cells.specs.Cells.{Tabled}
 use Rattle.totals.specs.Gather.{after_flows}
 use Rattle.totals.proofs.gather_line.Given as goal
@@ -6,5 +6,3 @@ use Rattle.totals.proofs.gather_line.Given as goal
 abbrev pub invariant-loop-period : goal.invariant-loop-period
 invariant-loop-period l = (l.period ≤ l.counts.periods) × Tabled l.counts.zones l.counts.periods (after_flows l.counts l.day l.clearing l.line l.period) l.flows
 
-abbrev pub decreases-loop-period : goal.decreases-loop-period
-decreases-loop-period l = l.counts.periods - l.period

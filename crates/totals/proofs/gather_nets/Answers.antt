@@ -3,10 +3,6 @@ use Rattle.std.proofs.Common.{rules}
 use Rattle.totals.specs.Gather.{nets_gathered}
 use Rattle.totals.proofs.gather_nets.Goals as goal
 
--- ?? same_length
--- same_length : tie.Need-same-length
--- same_length c = search rules
-
 pub returns : goal.returns
 returns c =
     nets_gathered c.requires.of_files c.gather_blocks.ensures

@@ -11,11 +11,7 @@ add_trade-requires c =
     let o = c.requires.of_files in
     let t = c.loop-row.invariant.1 in
     let next = step_next o c.loop-row-test.true in
-    rw c.step_trade.ensures ((t.long, next_below (cells_most o) next), next_fits (cells_most o) next t)
-
--- ?? add_row
--- add_row : tie.Need-overflow-add-row invariant-loop decreases-loop
--- add_row c = omega arith
+    rw c.step_trade.ensures (record { nets_len = (t.long, next_below (cells_most o) next); sfits = next_fits (cells_most o) next t })
 
 pub loop-row-preserved : goal.loop-row-preserved
 loop-row-preserved c =
@@ -23,6 +19,3 @@ loop-row-preserved c =
     let t = c.loop-row.invariant.1 in
     (omega arith, rw (c.add_trade.ensures, c.step_trade.ensures) (next_tabled (cells_most o) (step_next o c.loop-row-test.true) t))
 
--- ?? same_length
--- same_length : tie.Need-same-length invariant-loop decreases-loop
--- same_length c = c.before.loop.invariant.1.long ∙ sym c.before.before.before.before.requires.1.long

@@ -12,21 +12,21 @@ use Rattle.totals.proofs.one_period.Goals.{After-block_trade}
 block_priceable : {day clearing : List ℕ} {c : Counts} → OfFiles day clearing c → {k period : ℕ} → k < c.blocks → period < c.periods →
     {ratio : ℕ} → ratio ≤ most_ratio → Priceable clearing c (block_trade c day clearing k period ratio)
 block_priceable o {k} {period} l h {ratio} r = record {
-  of_clearing_lem = o.of_clearing_lem;
-  zone_is = (placed o).block_zone_lem k l;
+  of_clearing = o.of_clearing;
+  zone_is = (placed o).block_zone k l;
   period_is = h;
   small = block_small _ _ _ (placed o) (ranged o) k period ratio l h r;
 }
 
 pub block_volume-requires : goal.block_volume-requires
 block_volume-requires c =
-    (c.requires.1.1.1, rw c.quantity_of.ensures ((placed c.requires.0).block_quantity_lem _ _ c.requires.1.0 c.requires.1.1.0))
+    (c.requires.1.1.1, rw c.quantity_of.ensures ((placed c.requires.0).block_quantity _ _ c.requires.1.0 c.requires.1.1.0))
 
 trade : (c : After-block_trade) → let a = c.args in
     c.block_trade.result ≡ block_trade a.counts a.day.now a.clearing.now a.row a.period a.ratio
 trade c =
     c.block_trade.ensures
-    ∙ rw (c.block_volume.ensures, c.quantity_of.ensures, c.Block-of.ensures)
+    ∙ rw (c.block_volume.ensures, c.quantity_of.ensures, c.block_of.ensures)
 
 pub priced-requires : goal.priced-requires
 priced-requires c =

@@ -12,9 +12,9 @@ use Rattle.totals.proofs.one_step.Goals as goal
 step_priceable : {day clearing : List ℕ} {c : Counts} → OfFiles day clearing c → {i : ℕ} → i < c.steps →
     Priceable clearing c (step_trade day clearing i)
 step_priceable o {i} l = record {
-  of_clearing_lem = o.of_clearing_lem;
-  zone_is = (placed o).step_zone_lem i l;
-  period_is = (placed o).step_period_lem i l;
+  of_clearing = o.of_clearing;
+  zone_is = (placed o).step_zone i l;
+  period_is = (placed o).step_period i l;
   small = step_small _ _ _ (placed o) (ranged o) i l;
 }
 

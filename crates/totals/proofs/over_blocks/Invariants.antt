@@ -1,10 +1,7 @@
-use Rattle.std.proofs.Common.{◌-◌}
 use Rattle.totals.specs.Sums.{one_block}
 use Rattle.totals.specs.Loops.{Summed}
 use Rattle.totals.proofs.over_blocks.Given as goal
 
 abbrev pub invariant-loop-k : goal.invariant-loop-k
-invariant-loop-k l = Summed (one_block l.counts l.day l.clearing l.m) l.counts.blocks l.k l.all
+invariant-loop-k l = Summed (one_block l.counts l.day l.clearing l.measure) l.counts.blocks l.k l.all
 
-abbrev pub decreases-loop-k : goal.decreases-loop-k
-decreases-loop-k l = l.counts.blocks - l.k

@@ -1,10 +1,7 @@
-use Rattle.std.proofs.Common.{◌-◌}
 use Rattle.totals.specs.Sums.{one_period}
 use Rattle.totals.specs.Loops.{Summed}
 use Rattle.totals.proofs.over_periods.Given as goal
 
 abbrev pub invariant-loop-period : goal.invariant-loop-period
-invariant-loop-period l = Summed (one_period l.counts l.day l.clearing l.m l.k l.ratio) l.counts.periods l.period l.all
+invariant-loop-period l = Summed (one_period l.counts l.day l.clearing l.measure l.k l.ratio) l.counts.periods l.period l.all
 
-abbrev pub decreases-loop-period : goal.decreases-loop-period
-decreases-loop-period l = l.counts.periods - l.period

@@ -9,12 +9,12 @@ use Rattle.totals.proofs.rent_at.Goals.{After-flow_of, After-price_of, After-pri
 pub price_of-requires : goal.price_of-requires
 price_of-requires c =
     let p = c.requires in
-    (p.0.of_clearing_lem, (rw c.Line-of.ensures ((placed p.0).line_from _ p.1.0), p.1.1))
+    (p.0.of_clearing, (rw c.line_of-ends.ensures ((placed p.0).line_from _ p.1.0), p.1.1))
 
 pub price_of-requires-2 : goal.price_of-requires-2
 price_of-requires-2 c =
     let p = c.requires in
-    (p.0.of_clearing_lem, (rw c.Line-of.ensures ((placed p.0).line_to _ p.1.0), p.1.1))
+    (p.0.of_clearing, (rw c.line_of-ends.ensures ((placed p.0).line_to _ p.1.0), p.1.1))
 
 -- the three numbers that are passed on
 
@@ -25,12 +25,12 @@ flow_is c = same c.flow_of.result c.flow_of.type_inv ∙ c.flow_of.ensures
 from_is : (c : After-price_of) → let a = c.args in
     to_z w64 (of_z w64 c.price_of.result)
     ≡ prices_of a.counts a.clearing.now (line_of a.counts a.day.now a.line).from a.period
-from_is c = same c.price_of.result c.price_of.type_inv ∙ c.price_of.ensures ∙ rw c.Line-of.ensures
+from_is c = same c.price_of.result c.price_of.type_inv ∙ c.price_of.ensures ∙ rw c.line_of-ends.ensures
 
 to_is : (c : After-price_of-2) → let a = c.args in
     to_z w64 (of_z w64 c.price_of-2.result)
     ≡ prices_of a.counts a.clearing.now (line_of a.counts a.day.now a.line).to a.period
-to_is c = same c.price_of-2.result c.price_of-2.type_inv ∙ c.price_of-2.ensures ∙ rw c.Line-of.ensures
+to_is c = same c.price_of-2.result c.price_of-2.type_inv ∙ c.price_of-2.ensures ∙ rw c.line_of-ends.ensures
 
 pub rent-requires : goal.rent-requires
 rent-requires c =

@@ -1,4 +1,3 @@
-use Rattle.std.proofs.Common.{◌-◌}
 use Rattle.totals.specs.Sums.{missed}
 use Rattle.totals.specs.Loops.{Summed}
 use Rattle.totals.proofs.shortfall.Given as goal
@@ -6,5 +5,3 @@ use Rattle.totals.proofs.shortfall.Given as goal
 abbrev pub invariant-loop-k : goal.invariant-loop-k
 invariant-loop-k l = Summed (missed l.counts l.day l.clearing) l.counts.blocks l.k l.all
 
-abbrev pub decreases-loop-k : goal.decreases-loop-k
-decreases-loop-k l = l.counts.blocks - l.k
