@@ -1,6 +1,6 @@
 /* Ayinzhad, called from C and from whatever can call C.
  *
- * Link target/staticlib/libembed.a, which `rt staticlib embed` writes (x86-64 Linux).
+ * Link target/staticlib/libembed.a, which `tools/build embed` writes (x86-64 Linux).
  *
  * Nothing is asked of a caller but this: each pointer leads to as many elements as the length beside it says, and the buffers that are
  * written (room, place, totals, found) overlap nothing else that is passed. A length of 0 goes with any pointer, NULL too. The bytes of the

@@ -137,7 +137,7 @@ def main():
     words = parser.parse_args()
     program = os.path.join(root, "target", "bin", "archive")
     if words.archive is None and not os.path.exists(program):
-        print("there is no target/bin/archive: `rt check archive` makes it", file=sys.stderr)
+        print("there is no target/bin/archive: `tools/build archive` makes it", file=sys.stderr)
         return 2
     command = words.archive or [os.path.join(root, "tools", "run"), program]
     comparison = Comparison(words.seed, words.count, command)

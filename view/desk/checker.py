@@ -35,7 +35,7 @@ def program(name, folder=None):
     """The path of one of the repository's programs, or of one of that name in another folder."""
     path = (Path(folder) if folder else ROOT / "target" / "bin") / name
     if not path.is_file():
-        raise Unable(f"{path}: no such program; `rt check {name}` in the repository proves and builds it, which takes some minutes")
+        raise Unable(f"{path}: no such program; `tools/build {name}` in the repository proves and builds it, which takes some minutes")
     return str(path.resolve())
 
 
