@@ -1,9 +1,12 @@
 -- A loop that adds up f in an i64: what it has at each place, with one more term, and in the end. Assumes nothing.
-use Rattle.std.specs.Prelude.{ℕ, ◌+◌, ◌≤◌, ◌<◌, ◌≡◌, refl, ℤ, pos, nat_abs, ◌+ℤ◌}
-use Rattle.std.proofs.Common.{le_antisymm, arith, ◌∙◌, SFits, w64}
+use Rattle.std.specs.Prelude.{ℕ, ◌+◌, ◌≤◌, ◌<◌, ◌^◌, ◌≡◌, refl, ℤ, pos, nat_abs, ◌+ℤ◌}
+use Rattle.std.proofs.Common.{le_antisymm, arith, ◌∙◌}
+use mir.Val.{SFits, hbits, to_z, of_z}
+use Rattle.std.specs.Int.Signed.{mag}
+use Rattle.std.specs.Int.{w64}
 use Rattle.whole.specs.Whole.{sum}
 use Rattle.whole.specs.Sums.{sum_next}
-use Rattle.whole.specs.Size.{fits_i64}
+use Rattle.whole.specs.Size.{fits_i64, same}
 
 -- at the place i of n, `all` is the sum of the terms before i
 pub record Summed (f : ℕ → ℤ) (n i : ℕ) (all : ℤ) : Type 0 where
@@ -19,12 +22,13 @@ module _ {f : ℕ → ℤ} {n i : ℕ} {all : ℤ} (s : Summed f n i all) where
   all_summed l = rw (le_antisymm s.within l) at s.sum_is
 
   -- i is below n, the call that gives the term i answers x, and r is what adding it gives
-  module _ (l : i < n) {x : ℤ} (term : x ≡ f i) where
-    more : all +ℤ x ≡ sum (i + 1) f
-    more = rw (sum_next, s.sum_is, term)
+  module _ (l : i < n) {x : ℤ} (x_fits : mag x < 2 ^ hbits w64) (term : x ≡ f i) where
+    more : all +ℤ to_z w64 (of_z w64 x) ≡ sum (i + 1) f
+    more = rw (sum_next, same x x_fits, s.sum_is, term)
 
-    pub more_fits : {most : ℕ} → ((k : ℕ) → k ≤ n → nat_abs (sum k f) ≤ most) → most < 9223372036854775808 → SFits w64 (all +ℤ x)
+    pub more_fits : {most : ℕ} → ((k : ℕ) → k ≤ n → nat_abs (sum k f) ≤ most) → most < 9223372036854775808 →
+        SFits w64 (all +ℤ to_z w64 (of_z w64 x))
     more_fits size small = rw more (fits_i64 _ (omega (arith, size (i + 1) (omega arith))))
 
-    pub more_summed : {r : ℤ} → r ≡ all +ℤ x → Summed f n (i + 1) r
-    more_summed e = record { within = omega arith; sum_is = e ∙ more }
+    pub more_summed : {r : ℤ} → mag r < 2 ^ hbits w64 → r ≡ all +ℤ to_z w64 (of_z w64 x) → Summed f n (i + 1) (to_z w64 (of_z w64 r))
+    more_summed {r} r_fits e = record { within = omega arith; sum_is = same r r_fits ∙ e ∙ more }

@@ -15,10 +15,6 @@ add-all-requires c =
     more_fits c.loop-period.invariant c.loop-period-test.true c.rent_at.type_inv c.rent_at.ensures
     (λ n l. rent_part_size _ _ _ (placed o) (ranged o) n c.args.line l c.requires.1) (omega arith)
 
--- ?? add-period
--- add-period : tie.Need-overflow-add-period invariant-loop decreases-loop
--- add-period c = omega arith
-
 pub loop-period-preserved : goal.loop-period-preserved
 loop-period-preserved c =
     more_summed c.loop-period.invariant c.loop-period-test.true c.rent_at.type_inv c.rent_at.ensures

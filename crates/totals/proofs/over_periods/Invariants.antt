@@ -3,5 +3,5 @@ use Rattle.totals.specs.Loops.{Summed}
 use Rattle.totals.proofs.over_periods.Given as goal
 
 abbrev pub invariant-loop-period : goal.invariant-loop-period
-invariant-loop-period l = Summed (one_period l.counts l.day l.clearing l.measure l.k l.ratio) l.counts.periods l.period l.all
+invariant-loop-period l = Summed (one_period l.counts l.day l.clearing l.measure l.row l.ratio) l.counts.periods l.period l.all
 

@@ -14,10 +14,6 @@ add-all-requires c =
     more_fits c.loop-i.invariant c.loop-i-test.true c.one_step.type_inv c.one_step.ensures
     (steps_size _ _ _ (placed c.requires) (ranged c.requires) c.args.measure) (omega arith)
 
--- ?? add-i
--- add-i : tie.Need-overflow-add-i invariant-loop decreases-loop
--- add-i c = omega arith
-
 pub loop-i-preserved : goal.loop-i-preserved
 loop-i-preserved c =
     more_summed c.loop-i.invariant c.loop-i-test.true c.one_step.type_inv c.one_step.ensures

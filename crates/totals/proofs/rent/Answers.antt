@@ -15,10 +15,6 @@ add-all-requires c =
     more_fits c.loop-line.invariant c.loop-line-test.true c.line_rent.type_inv c.line_rent.ensures
     (rents_size _ _ _ (placed o) (ranged o)) (omega arith)
 
--- ?? add-line
--- add-line : tie.Need-overflow-add-line invariant-loop decreases-loop
--- add-line c = omega arith
-
 pub loop-line-preserved : goal.loop-line-preserved
 loop-line-preserved c =
     more_summed c.loop-line.invariant c.loop-line-test.true c.line_rent.type_inv c.line_rent.ensures

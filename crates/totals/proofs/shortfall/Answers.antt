@@ -14,10 +14,6 @@ add-all-requires c =
     more_fits c.loop-k.invariant c.loop-k-test.true c.missed.type_inv c.missed.ensures
     (missed_size _ _ _ (placed c.requires) (ranged c.requires)) (omega arith)
 
--- ?? add-k
--- add-k : tie.Need-overflow-add-k invariant-loop decreases-loop
--- add-k c = omega arith
-
 pub loop-k-preserved : goal.loop-k-preserved
 loop-k-preserved c =
     more_summed c.loop-k.invariant c.loop-k-test.true c.missed.type_inv c.missed.ensures
