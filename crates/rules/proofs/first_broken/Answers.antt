@@ -1,0 +1,23 @@
+-- `rules::first_broken` meets its contract: in the rows passed, and in this row's columns passed, the rule holds. Assumes nothing.
+use Rattle.std.proofs.lemmas.Bool.{not-true}
+use Rattle.std.proofs.Common.{◌-◌, sym, ◌∙◌, rules}
+use Rattle.stages.specs.Table.{stop_cell}
+use Rattle.rules.proofs.first_broken.Goals as goal
+
+-- ?? add-column
+-- add-column : tie.Need-overflow-add-column invariant-loop decreases-loop invariant-scan decreases-scan
+-- add-column c = search rules
+
+-- ?? add_row
+-- add_row : tie.Need-overflow-add-row invariant-loop decreases-loop invariant-scan decreases-scan
+-- add_row c = search rules
+
+pub returns-then-not-holds_at : goal.returns-then-not-holds_at
+returns-then-not-holds_at c =
+    stop_cell
+    c.scan.invariant.1.1
+    c.loop-column.invariant.1.1
+    (sym c.holds_at.ensures ∙ not-true _ c.if-not-holds_at.true-raw)
+    c.loop-column-test.true
+    c.scan-test.true
+    ∙ rw (c.columns_of-columns.ensures, c.rows_of-rows.ensures)

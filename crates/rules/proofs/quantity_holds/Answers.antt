@@ -1,0 +1,7 @@
+-- `rules::quantity_holds` meets its contract. Assumes nothing.
+use Rattle.market.specs.Rules.{test}
+use Rattle.rules.proofs.quantity_holds.Goals as goal
+
+pub returns : goal.returns
+unfolding test
+returns c = rw (c.volume_of.ensures, c.step_of_lem.ensures)
