@@ -58,7 +58,7 @@ pub surplus_of-surplus-requires : goal.surplus_of-surplus-requires
 surplus_of-surplus-requires c =
     let price = (head (goal.at.surplus_of-surplus-requires c).Else-not-head_ok).price_is in (
       rw (same c.block_at-block.result.limit (search rules), c.block_at-block.ensures) ((abs_le _ most_price).1 (price.low, price.high)),
-      walked_small c.over_periods-whole.ensures c.requires.framed.0.of_clearing_lem.limits.periods_most,
+      walked_small c.over_periods-whole.ensures c.requires.framed.0.of_clearing.limits.periods_most,
     )
 
 -- the whole block's surplus
@@ -72,7 +72,7 @@ small : (c : After-surplus_of-surplus) → nat_abs (to_z w64 (of_z w64 c.surplus
 small c =
     rw (surplus_is c)
     (surplus_small c.args.counts c.args.day.now c.args.clearing.now c.args.row (read (goal.at.After-surplus_of-surplus c).After-ratio_of-ratio)
-    (passed (goal.at.After-surplus_of-surplus c).Else-whole-eq0) c.requires.framed.1.0 c.requires.framed.0.of_clearing_lem.limits.periods_most)
+    (passed (goal.at.After-surplus_of-surplus c).Else-whole-eq0) c.requires.framed.1.0 c.requires.framed.0.of_clearing.limits.periods_most)
 
 pub miss-requires-clause-left_bound : goal.miss-requires-clause-left_bound
 miss-requires-clause-left_bound c = omega (arith, small (goal.at.miss-requires-clause-left_bound c).After-surplus_of-surplus)
@@ -88,7 +88,7 @@ returns-then-ratio-eq0 c _ =
 
 pub accept-requires-clause-ready : goal.accept-requires-clause-ready
 accept-requires-clause-ready c =
-    let limits = c.requires.framed.0.of_clearing_lem.limits in
+    let limits = c.requires.framed.0.of_clearing.limits in
     record {
       row_within = within (goal.at.accept-requires-clause-ready c).After-row_start-at;
       quantities = λ h l. le_trans (c.over_periods-whole.ensures.bits_above h l) c.if-whole-gt-VOLUME_MOST.false;

@@ -8,7 +8,7 @@ loop-row-init c = (omega arith, none_counted)
 
 pub count_block-requires : goal.count_block-requires
 count_block-requires c =
-    let limits = c.requires.framed.0.of_clearing_lem.limits in
+    let limits = c.requires.framed.0.of_clearing.limits in
     let many = le_trans c.loop-row.invariant.0 limits.blocks_most in
     let t = c.loop-row.invariant.1 in
     record {
