@@ -4,14 +4,6 @@ use Rattle.std.proofs.Common.{◌-◌, sym, ◌∙◌, rules}
 use Rattle.stages.specs.Table.{stop_cell}
 use Rattle.rules.proofs.first_broken.Goals as goal
 
--- ?? add-column
--- add-column : tie.Need-overflow-add-column invariant-loop decreases-loop invariant-scan decreases-scan
--- add-column c = search rules
-
--- ?? add_row
--- add_row : tie.Need-overflow-add-row invariant-loop decreases-loop invariant-scan decreases-scan
--- add_row c = search rules
-
 pub returns-then-not-holds_at : goal.returns-then-not-holds_at
 returns-then-not-holds_at c =
     stop_cell

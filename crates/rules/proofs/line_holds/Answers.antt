@@ -6,11 +6,11 @@ use Rattle.rules.proofs.line_holds.Goals as goal
 
 pub price_of-requires : goal.price_of-requires
 price_of-requires c =
-    rw c.Line-of.ensures (c.requires.0.of_clearing, ((placed c.requires.0).line_from _ c.requires.1.0, c.requires.1.1))
+    rw c.line_of-ends.ensures (c.requires.0.of_clearing, ((placed c.requires.0).line_from _ c.requires.1.0, c.requires.1.1))
 
 pub price_of-requires-2 : goal.price_of-requires-2
 price_of-requires-2 c =
-    rw c.Line-of.ensures
+    rw c.line_of-ends.ensures
     (c.requires.0.of_clearing, ((placed c.requires.0).line_to _ c.requires.1.0, c.requires.1.1))
 
 pub returns : goal.returns
@@ -28,5 +28,5 @@ returns c =
       c.price_of.ensures,
       c.least_flow_of.ensures,
       c.forward_of.ensures,
-      c.Line-of.ensures,
+      c.line_of-ends.ensures,
     )

@@ -9,7 +9,7 @@ use Rattle.rules.proofs.step_holds.Goals as goal
 pub price_of-requires : goal.price_of-requires
 price_of-requires c =
     let day = placed c.requires.0 in
-    rw c.step_of_lem.ensures (c.requires.0.of_clearing, (day.step_zone _ c.requires.1, day.step_period _ c.requires.1))
+    rw c.step_of-step.ensures (c.requires.0.of_clearing, (day.step_zone _ c.requires.1, day.step_period _ c.requires.1))
 
 pub returns : goal.returns
 unfolding test
@@ -19,6 +19,6 @@ returns c =
       c.volume_of.ensures,
       same c.price_of.result c.price_of.type_inv,
       c.price_of.ensures,
-      to_z-of_z w64 c.step_of_lem.result.limit (record { sfits = c.struct_told-1.given.1.1.1.0.1 }),
-      c.step_of_lem.ensures,
+      to_z-of_z w64 c.step_of-step.result.limit (record { sfits = c.struct_told-1.given.1.1.1.0.1 }),
+      c.step_of-step.ensures,
     )

@@ -10,10 +10,6 @@ total_stored : (at : ℕ) (v : ℤ) → SFits w64 v → {r r' s : List ℕ} →
     s ≡ put r at (bytes64 (bits64 (to_z w64 (of_z w64 v)))) → r ≡ r' → s ≡ put r' at (bytes64 (bits64 v))
 total_stored at v f e h = e ∙ rw (to_z-of_z w64 v f, h)
 
--- ?? same_length
--- same_length : tie.Need-same-length
--- same_length c = omega (arith, c.before.before.before.before.before.before.before.before.before.before.before.before.before)
-
 pub returns : goal.returns
 returns c =
     let t = c.args.totals in

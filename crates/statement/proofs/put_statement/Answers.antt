@@ -4,10 +4,6 @@ use Rattle.statement.specs.Laws.{statement_stored}
 use Rattle.statement.specs.Of.{net_count}
 use Rattle.statement.proofs.put_statement.Goals as goal
 
--- ?? same_length
--- same_length : tie.Need-same-length
--- same_length c = search rules
-
 pub returns : goal.returns
 returns c =
     let a = c.args in
