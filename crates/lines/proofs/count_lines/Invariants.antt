@@ -1,0 +1,5 @@
+use Rattle.lines.specs.Counted.{LinesSoFar}
+use Rattle.lines.proofs.count_lines.Given as goal
+
+abbrev pub invariant-loop-line : goal.invariant-loop-line
+invariant-loop-line l = LinesSoFar l.counts l.day l.clearing l.line l.initial.flows l.flows l.initial.sums l.sums
