@@ -1,0 +1,7 @@
+-- `steps::count_steps` meets its contract: at first no head is known. Assumes nothing.
+use Rattle.std.proofs.Common.{refl}
+use Rattle.steps.specs.Known.{nothing_known}
+use Rattle.steps.proofs.count_steps.Goals as goal
+
+pub know_all-requires-clause-known : goal.know_all-requires-clause-known
+know_all-requires-clause-known c = nothing_known refl refl
