@@ -10,7 +10,7 @@ pub count_step-requires-clause-ready : goal.count_step-requires-clause-ready
 count_step-requires-clause-ready c =
     let so_far = c.loop-i.invariant in
     let ready = c.requires.ready in
-    (still_ready so_far.1 ready (le_trans so_far.0 ready.framed.of_clearing_lem.limits.steps_most), c.loop-i-test.true)
+    (still_ready so_far.1 ready (le_trans so_far.0 ready.framed.of_clearing.limits.steps_most), c.loop-i-test.true)
 
 pub loop-i-preserved : goal.loop-i-preserved
 loop-i-preserved c = (omega arith, more_counted c.loop-i.invariant.1 (c.count_step.ensures c.if-not-count_step.false))

@@ -48,7 +48,7 @@ module _ (c : After-volume_of-volume) where
   here : Placed c.args.counts day c.args.clearing.now c.args.row slot (get_or c.args.prices.now slot (pos 0)) (get_or c.args.places.now slot 0)
   here =
       let f = c.head_at-head.ensures in
-      placed c.args.counts day c.args.clearing.now c.args.row c.requires.ready.0.framed.of_clearing_lem.limits
+      placed c.args.counts day c.args.clearing.now c.args.row c.requires.ready.0.framed.of_clearing.limits
       (subst (λ (p : List ℕ). FourBytes p at) part_is f.1) (head_is ∙ f.0 ∙ ap (λ (p : List ℕ). u32_at p at) part_is)
       (c.requires.known.each slot c.slot_of-slot.ensures (omega (arith, head_is, f.0, f.1.first, f.1.second, f.1.third, f.1.fourth)))
       limit_at quantity_at (sym c.numbers_ok.ensures ∙ c.if-not-numbers_ok.false)
@@ -71,7 +71,7 @@ module _ (c : After-volume_of-volume) where
   cell_is = c.u8_at-cell.ensures.0 ∙ here.place_is
 
   inside : step.zone * c.args.counts.periods + step.period < length c.args.nets.now
-  inside = rw c.requires.ready.0.nets_long (price_cell c.requires.ready.0.framed.of_clearing_lem (lies_so.zone, lies_so.period))
+  inside = rw c.requires.ready.0.nets_long (price_cell c.requires.ready.0.framed.of_clearing (lies_so.zone, lies_so.period))
 
   ready : Near step.limit price step.quantity × Room (step.zone * c.args.counts.periods + step.period) c.args.nets.now c.args.sums.now
   ready =
