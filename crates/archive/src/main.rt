@@ -8,7 +8,8 @@
 ghost use Rattle.std.specs.Prelude.{◌≤◌};
 
 use input::Reading;
-use libc::STDIN_FILENO;
+use std::io;
+use std::io::{Read, Write};
 
 // ---- a file of so many bytes
 
@@ -26,20 +27,20 @@ fn less(a: usize, b: usize) -> usize
 }
 
 // Passes over some of the bytes that are left: how many are left then.
-fn skip_some(left: usize) -> usize
+fn skip_some<R: Read>(file: &mut R, left: usize) -> usize
     ensures { result ≤ left }
 {
-    let mut passed = io::large_buffer();
+    let mut passed = [0u8; 65536];
     less(
         left,
-        io::read_full(STDIN_FILENO, input::front_mut(&mut passed, left)),
+        input::read_full(file, input::front_mut(&mut passed, left)),
     )
 }
 
-fn skip(n: usize) -> bool {
+fn skip<R: Read>(file: &mut R, n: usize) -> bool {
     let mut left = n;
     while 0 < left {
-        let next = skip_some(left);
+        let next = skip_some(file, left);
         if next == left {
             return false;
         }
@@ -49,57 +50,69 @@ fn skip(n: usize) -> bool {
 }
 
 // Reads n bytes, of which the buffer takes as many as it can. Whether they were all there.
-fn take(buf: &mut [u8], n: usize) -> bool {
+fn take<R: Read>(file: &mut R, buf: &mut [u8], n: usize) -> bool {
     let part = input::front_mut(buf, n);
     let kept = part.len();
-    if !is_held(input::read(STDIN_FILENO, part), kept) {
+    if !is_held(input::read(file, part), kept) {
         return false;
     }
-    skip(less(n, kept))
+    skip(file, less(n, kept))
 }
 
 // ---- a pair, and all pairs
 
 // Judges a pair of files of these lengths. Whether it was all there.
-fn judge_pair(day_length: usize, clearing_length: usize) -> bool {
-    let mut day = io::large_buffer();
-    let mut clearing = io::large_buffer();
-    if !take(&mut day, day_length) {
-        return false;
+fn judge_pair<R: Read, W: Write>(
+    out: &mut W,
+    file: &mut R,
+    day_length: usize,
+    clearing_length: usize,
+) -> io::Result<bool> {
+    let mut day = [0u8; 65536];
+    let mut clearing = [0u8; 65536];
+    if !take(file, &mut day, day_length) {
+        return Ok(false);
     }
-    if !take(&mut clearing, clearing_length) {
-        return false;
+    if !take(file, &mut clearing, clearing_length) {
+        return Ok(false);
     }
     report::judged(
+        out,
         input::front(&day, day_length),
         input::front(&clearing, clearing_length),
-    );
-    true
+    )?;
+    Ok(true)
 }
 
 // Judges the next pair. Whether to go on.
-fn judge_next() -> bool {
+fn judge_next<R: Read, W: Write>(out: &mut W, file: &mut R) -> io::Result<bool> {
     let mut head = [0u8; 8];
-    let reading = input::read(STDIN_FILENO, &mut head);
+    let reading = input::read(file, &mut head);
     if is_held(reading, 0) {
-        return false;
+        return Ok(false);
     }
     if is_held(reading, 8) {
         if judge_pair(
+            out,
+            file,
             wire::u32_at(&head, 0) as usize,
             wire::u32_at(&head, 4) as usize,
-        ) {
-            return true;
+        )? {
+            return Ok(true);
         }
     }
-    print::text(b"cut short\n");
-    false
+    print::text(out, b"cut short\n")?;
+    Ok(false)
 }
 
-// A loop has to end, and nothing says that the input does: it counts down from a number of pairs that no archive has.
-fn main() {
-    let mut turns = u64::MAX;
-    while turns > 0 && judge_next() {
-        turns -= 1;
+// A loop has to end, and nothing says that the input does: it goes as far as a number of pairs that no archive has.
+fn main(rt: HostRuntime) -> io::Result<()> {
+    let mut out = io::writer(&rt);
+    let mut file = rt.stdin();
+    for _ in 0..u64::MAX {
+        if !judge_next(&mut out, &mut file)? {
+            return Ok(());
+        }
     }
+    Ok(())
 }

@@ -3,30 +3,32 @@
 #![tactic(auto)]
 
 use input::Reading;
+use std::fs::Files;
+use std::{fs, io};
 
-fn read_named(name: &[u8], buf: &mut [u8]) -> Reading {
-    let file = os::open_read(name);
-    if file < 0 {
+fn read_named<R: Files>(rt: &R, name: &str, buf: &mut [u8]) -> Reading {
+    let Ok(mut file) = fs::open(rt, name) else {
         return Reading::Failed;
-    }
-    let reading = input::read(file, buf);
-    libc::close(file);
-    reading
+    };
+    input::read(&mut file, buf)
 }
 
-fn main() {
-    let mut day = io::large_buffer();
-    let mut clearing = io::large_buffer();
-    let Reading::Held(day_length) = read_named(b"day.bin", &mut day) else {
-        print::text(b"missing day\n");
-        return;
+fn main(rt: HostRuntime) -> io::Result<()> {
+    let mut out = io::writer(&rt);
+    let mut day = [0u8; 65536];
+    let mut clearing = [0u8; 65536];
+    let Reading::Held(day_length) = read_named(&rt, "day.bin", &mut day) else {
+        print::text(&mut out, b"missing day\n")?;
+        return Ok(());
     };
-    let Reading::Held(clearing_length) = read_named(b"clearing.bin", &mut clearing) else {
-        print::text(b"missing clearing\n");
-        return;
+    let Reading::Held(clearing_length) = read_named(&rt, "clearing.bin", &mut clearing) else {
+        print::text(&mut out, b"missing clearing\n")?;
+        return Ok(());
     };
     report::judged(
+        &mut out,
         input::front(&day, day_length),
         input::front(&clearing, clearing_length),
-    );
+    )?;
+    Ok(())
 }

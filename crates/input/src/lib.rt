@@ -2,29 +2,33 @@
 #![tactic(auto)]
 
 ghost use Rattle.std.specs.Prelude.{◌≡◌, length, take};
-ghost use Rattle.input.specs.Within.{Within};
+ghost use Rattle.std.specs.Io.KnownBytes.{Consumes};
+ghost use Rattle.input.specs.Within.{IsPrefixLen, Takes, TakesSome, Within};
+
+use std::io::Read;
 
 // How many bytes of a file stand at the front of a buffer; or a read failed.
-#[derive(Drop)]
+#[derive(Clone, Copy)]
 pub enum Reading {
     Held(usize),
     Failed,
 }
 
 // One read: no bytes where the file has ended.
-fn read_some(file: i32, rest: &mut [u8]) -> Reading
-    ensures { Within result (length rest.old) }
+fn read_some<R: Read>(file: &mut R, rest: &mut [u8]) -> Reading
+    ensures within { Within result (length rest.old) }
+    ensures bytes { TakesSome result (R.remaining file.old) (R.remaining file.new) rest.new }
 {
-    let got = libc::read(file, rest);
-    if got < 0 {
-        return Reading::Failed;
+    match file.read(rest) {
+        Ok(got) => Reading::Held(got),
+        Err(_) => Reading::Failed,
     }
-    Reading::Held(io::count(got, rest))
 }
 
 // Reads until the buffer is full or the file has ended.
-pub fn read(file: i32, buf: &mut [u8]) -> Reading
-    ensures { Within result (length buf.old) }
+pub fn read<R: Read>(file: &mut R, buf: &mut [u8]) -> Reading
+    ensures within { Within result (length buf.old) }
+    ensures bytes { Takes result (R.remaining file.old) (R.remaining file.new) buf.new }
 {
     let mut done = 0;
     while done < buf.len() {
@@ -37,6 +41,24 @@ pub fn read(file: i32, buf: &mut [u8]) -> Reading
         done = done + more;
     }
     Reading::Held(done)
+}
+
+// Reads as far too, and stops where a read fails. Gives how many bytes came.
+pub fn read_full<R: Read>(file: &mut R, buf: &mut [u8]) -> usize
+    ensures within { IsPrefixLen result buf.new }
+    ensures bytes { Consumes (R.remaining file.old) (R.remaining file.new) (take result buf.new) }
+{
+    let mut held = 0;
+    while held < buf.len() {
+        let Reading::Held(more) = read_some(file, &mut buf[held..]) else {
+            return held;
+        };
+        if more == 0 {
+            return held;
+        }
+        held = held + more;
+    }
+    held
 }
 
 // ---- the front of a buffer: n bytes, or all where there are fewer

@@ -3,23 +3,27 @@
 #![tactic(auto)]
 
 ghost use Rattle.std.specs.Prelude.{◌≡◌, length};
-ghost use Rattle.io.specs.Counts.{IsPrefixLen};
+ghost use Rattle.input.specs.Within.{IsPrefixLen};
 
 use clearing::Files;
 use stages::{Fault, Place};
+use std::io::Write;
+use std::{fs, io};
 
-fn say_place(number: u8, place: Place) {
-    print::spaced(number as usize);
-    print::spaced(place.first);
-    print::spaced(place.second);
-    print::spaced(place.third);
+fn say_place<W: Write>(out: &mut W, number: u8, place: Place) -> io::Result<()> {
+    print::spaced(out, number as usize)?;
+    print::spaced(out, place.first)?;
+    print::spaced(out, place.second)?;
+    print::spaced(out, place.third)?;
+    Ok(())
 }
 
-fn say_fault(fault: Fault) {
+fn say_fault<W: Write>(out: &mut W, fault: Fault) -> io::Result<()> {
     match fault {
-        Fault::Broken(k, p) => say_place(k, p),
+        Fault::Broken(k, p) => say_place(out, k, p),
         Fault::Clean => {
-            print::text(b" 0 0 0 0");
+            print::text(out, b" 0 0 0 0")?;
+            Ok(())
         }
     }
 }
@@ -33,14 +37,15 @@ fn fault_of(files: Files) -> Fault {
     }
 }
 
-fn say_reading(day: &[u8], clearing: &[u8]) {
-    say_fault(fault_of(clearing::read_files(day, clearing)));
-    print::text(b"\n");
+fn say_reading<W: Write>(out: &mut W, day: &[u8], clearing: &[u8]) -> io::Result<()> {
+    say_fault(out, fault_of(clearing::read_files(day, clearing)))?;
+    print::text(out, b"\n")?;
+    Ok(())
 }
 
-fn say_named(name: &[u8], day: &[u8], clearing: &[u8]) {
-    print::text(name);
-    say_reading(day, clearing);
+fn say_named<W: Write>(out: &mut W, name: &[u8], day: &[u8], clearing: &[u8]) -> io::Result<()> {
+    print::text(out, name)?;
+    say_reading(out, day, clearing)
 }
 
 // ---- the readers with one of the files changed
@@ -50,23 +55,30 @@ const DAY: u8 = 0;
 
 const CLEARING: u8 = 1;
 
-fn say_file(file: u8) {
+fn say_file<W: Write>(out: &mut W, file: u8) -> io::Result<()> {
     if file == DAY {
-        print::text(b"day");
+        print::text(out, b"day")?;
     } else {
-        print::text(b"clearing");
+        print::text(out, b"clearing")?;
     }
+    Ok(())
 }
 
 fn chosen<'a>(file: u8, day: &'a [u8], clearing: &'a [u8]) -> &'a [u8] {
     if file == DAY { day } else { clearing }
 }
 
-fn say_changed(file: u8, changed: &[u8], day: &[u8], clearing: &[u8]) {
+fn say_changed<W: Write>(
+    out: &mut W,
+    file: u8,
+    changed: &[u8],
+    day: &[u8],
+    clearing: &[u8],
+) -> io::Result<()> {
     if file == DAY {
-        say_reading(changed, clearing);
+        say_reading(out, changed, clearing)
     } else {
-        say_reading(day, changed);
+        say_reading(out, day, changed)
     }
 }
 
@@ -75,17 +87,35 @@ fn first<'a>(s: &'a [u8], n: usize) -> &'a [u8] {
     if n < s.len() { &s[0..n] } else { s }
 }
 
-fn say_cut<'a>(file: u8, n: usize, day: &'a [u8], clearing: &'a [u8]) {
-    say_file(file);
-    print::text(b" cut to ");
-    print::number(n);
-    say_changed(file, first(chosen(file, day, clearing), n), day, clearing);
+fn say_cut<'a, W: Write>(
+    out: &mut W,
+    file: u8,
+    n: usize,
+    day: &'a [u8],
+    clearing: &'a [u8],
+) -> io::Result<()> {
+    say_file(out, file)?;
+    print::text(out, b" cut to ")?;
+    print::number(out, n)?;
+    say_changed(
+        out,
+        file,
+        first(chosen(file, day, clearing), n),
+        day,
+        clearing,
+    )
 }
 
-fn say_cuts<'a>(file: u8, day: &'a [u8], clearing: &'a [u8]) {
+fn say_cuts<'a, W: Write>(
+    out: &mut W,
+    file: u8,
+    day: &'a [u8],
+    clearing: &'a [u8],
+) -> io::Result<()> {
     for n in 0..chosen(file, day, clearing).len() {
-        say_cut(file, n, day, clearing);
+        say_cut(out, file, n, day, clearing)?;
     }
+    Ok(())
 }
 
 // The byte at i of a file whose byte at `at` is altered, and 0 past its end.
@@ -107,65 +137,77 @@ fn altered(s: &[u8], at: usize, value: u8) -> [u8; 128]
     room
 }
 
-fn say_edit<'a>(file: u8, at: u8, value: u8, day: &'a [u8], clearing: &'a [u8]) {
-    say_file(file);
-    print::text(b" byte ");
-    print::number(at as usize);
-    print::text(b" is ");
-    print::number(value as usize);
+fn say_edit<'a, W: Write>(
+    out: &mut W,
+    file: u8,
+    at: u8,
+    value: u8,
+    day: &'a [u8],
+    clearing: &'a [u8],
+) -> io::Result<()> {
+    say_file(out, file)?;
+    print::text(out, b" byte ")?;
+    print::number(out, at as usize)?;
+    print::text(out, b" is ")?;
+    print::number(out, value as usize)?;
     let whole = chosen(file, day, clearing);
     let room = altered(whole, at as usize, value);
-    say_changed(file, first(&room, whole.len()), day, clearing);
+    say_changed(out, file, first(&room, whole.len()), day, clearing)
 }
 
 // Each edit is three bytes: the file's number, the place, and the byte to put there.
-fn say_edits<'a>(edits: &[u8], day: &'a [u8], clearing: &'a [u8]) {
+fn say_edits<'a, W: Write>(
+    out: &mut W,
+    edits: &[u8],
+    day: &'a [u8],
+    clearing: &'a [u8],
+) -> io::Result<()> {
     let mut rest = edits;
     while 3 <= rest.len() {
-        say_edit(rest[0], rest[1], rest[2], day, clearing);
+        say_edit(out, rest[0], rest[1], rest[2], day, clearing)?;
         rest = &rest[3..];
     }
+    Ok(())
 }
 
 // ---- the look-up
 
-fn say_part(part: &[u8]) {
-    print::text(b" part of ");
-    print::number(part.len());
+fn say_part<W: Write>(out: &mut W, part: &[u8]) -> io::Result<()> {
+    print::text(out, b" part of ")?;
+    print::number(out, part.len())?;
     if 0 < part.len() {
-        print::text(b" ");
+        print::text(out, b" ")?;
     }
-    print::bytes(part);
-    print::text(b"\n");
+    print::bytes(out, part)?;
+    print::text(out, b"\n")?;
+    Ok(())
 }
 
-fn say_look_up(name: &[u8], day: &[u8], section: usize) {
-    print::text(name);
-    print::text(b" section ");
-    print::number(section);
-    print::text(b" refused");
-    say_fault(lookup::look_up_fault(day, section));
-    say_part(lookup::look_up(day, section));
+fn say_look_up<W: Write>(out: &mut W, name: &[u8], day: &[u8], section: usize) -> io::Result<()> {
+    print::text(out, name)?;
+    print::text(out, b" section ")?;
+    print::number(out, section)?;
+    print::text(out, b" refused")?;
+    say_fault(out, lookup::look_up_fault(day, section))?;
+    say_part(out, lookup::look_up(day, section))
 }
 
-fn say_look_ups(name: &[u8], day: &[u8]) {
+fn say_look_ups<W: Write>(out: &mut W, name: &[u8], day: &[u8]) -> io::Result<()> {
     for section in 0..7 {
-        say_look_up(name, day, section);
+        say_look_up(out, name, day, section)?;
     }
+    Ok(())
 }
 
 // ---- the run
 
-fn loaded(path: &[u8], room: &mut [u8]) -> usize
+fn loaded<R: fs::Files>(rt: &R, path: &str, room: &mut [u8]) -> usize
     ensures { IsPrefixLen result room.new }
 {
-    let file = os::open_read(path);
-    if file < 0 {
+    let Ok(mut file) = fs::open(rt, path) else {
         return 0;
-    }
-    let n = io::read_full(file, room);
-    libc::close(file);
-    n
+    };
+    input::read_full(&mut file, room)
 }
 
 fn without_last<'a>(s: &'a [u8]) -> &'a [u8] {
@@ -173,37 +215,44 @@ fn without_last<'a>(s: &'a [u8]) -> &'a [u8] {
 }
 
 // Each of the two files is lent with one byte more, which stands behind it in its room.
-fn say_all<'a>(longer_day: &'a [u8], longer_clearing: &'a [u8], edits: &[u8]) {
+fn say_all<'a, W: Write>(
+    out: &mut W,
+    longer_day: &'a [u8],
+    longer_clearing: &'a [u8],
+    edits: &[u8],
+) -> io::Result<()> {
     let day = without_last(longer_day);
     let shorter_day = without_last(day);
     let clearing = without_last(longer_clearing);
-    say_named(b"day A and clearing A", day, clearing);
-    say_named(b"day A without its last byte", shorter_day, clearing);
-    say_named(b"two empty files", b"", b"");
-    say_named(b"day A with one byte more", longer_day, clearing);
-    say_named(b"clearing A with one byte more", day, longer_clearing);
+    say_named(out, b"day A and clearing A", day, clearing)?;
+    say_named(out, b"day A without its last byte", shorter_day, clearing)?;
+    say_named(out, b"two empty files", b"", b"")?;
+    say_named(out, b"day A with one byte more", longer_day, clearing)?;
+    say_named(out, b"clearing A with one byte more", day, longer_clearing)?;
     say_named(
+        out,
         b"clearing A with one byte a block",
         day,
         without_last(clearing),
-    );
-    say_cuts(DAY, day, clearing);
-    say_cuts(CLEARING, day, clearing);
-    say_edits(edits, day, clearing);
-    say_look_ups(b"day A", day);
-    say_look_ups(b"day A without its last byte", shorter_day);
+    )?;
+    say_cuts(out, DAY, day, clearing)?;
+    say_cuts(out, CLEARING, day, clearing)?;
+    say_edits(out, edits, day, clearing)?;
+    say_look_ups(out, b"day A", day)?;
+    say_look_ups(out, b"day A without its last byte", shorter_day)
 }
 
-fn main() {
+fn main(rt: HostRuntime) -> io::Result<()> {
     let mut day = [0u8; 128];
-    let d = loaded(b"day_a", &mut day);
+    let d = loaded(&rt, "day_a", &mut day);
     let mut clearing = [0u8; 128];
-    let c = loaded(b"clearing_a", &mut clearing);
+    let c = loaded(&rt, "clearing_a", &mut clearing);
     let mut edits = [0u8; 4096];
-    let e = loaded(b"edits", &mut edits);
+    let e = loaded(&rt, "edits", &mut edits);
     say_all(
+        &mut io::writer(&rt),
         first(&day, d + 1),
         first(&clearing, c + 1),
         first(&edits, e),
-    );
+    )
 }

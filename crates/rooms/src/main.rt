@@ -6,6 +6,9 @@
 
 ghost use Rattle.std.specs.Prelude.{◌≡◌, length};
 
+use std::io::{Read, Write};
+use std::{fs, io};
+
 const MOST_PAIRS: usize = 2000;
 
 const FILL: u8 = 170;
@@ -18,61 +21,70 @@ fn filled() -> [u8; 65536]
     [FILL; 65536]
 }
 
-fn say_room(room: &[u8]) {
-    print::text(b"room ");
-    print::bytes(room);
-    print::text(b"\n");
+fn say_room<W: Write>(out: &mut W, room: &[u8]) -> io::Result<()> {
+    print::text(out, b"room ")?;
+    print::bytes(out, room)?;
+    print::text(out, b"\n")?;
+    Ok(())
 }
 
-fn judge(day: &[u8], clearing: &[u8], room: &mut [u8]) {
+fn judge<W: Write>(out: &mut W, day: &[u8], clearing: &[u8], room: &mut [u8]) -> io::Result<()> {
     let outcome = verdict::check(day, clearing, room);
-    report::outcome(outcome, day, room);
-    say_room(room);
+    report::outcome(out, outcome, day, room)?;
+    say_room(out, room)
 }
 
-fn judge_next(file: i32, day_length: usize, clearing_length: usize, room_length: usize) {
-    let mut day = io::large_buffer();
-    let mut clearing = io::large_buffer();
+fn judge_next<R: Read, W: Write>(
+    out: &mut W,
+    file: &mut R,
+    day_length: usize,
+    clearing_length: usize,
+    room_length: usize,
+) -> io::Result<()> {
+    let mut day = [0u8; 65536];
+    let mut clearing = [0u8; 65536];
     let mut room = filled();
-    io::read_full(file, input::front_mut(&mut day, day_length));
-    io::read_full(file, input::front_mut(&mut clearing, clearing_length));
+    input::read_full(file, input::front_mut(&mut day, day_length));
+    input::read_full(file, input::front_mut(&mut clearing, clearing_length));
     judge(
+        out,
         input::front(&day, day_length),
         input::front(&clearing, clearing_length),
         input::front_mut(&mut room, room_length),
-    );
+    )
 }
 
 // ---- all pairs
 
-fn judge_one(file: i32) -> bool {
+fn judge_one<R: Read, W: Write>(out: &mut W, file: &mut R) -> io::Result<bool> {
     let mut head = [0u8; 6];
-    if io::read_full(file, &mut head) < 6 {
-        return false;
+    if input::read_full(file, &mut head) < 6 {
+        return Ok(false);
     }
     judge_next(
+        out,
         file,
         wire::u16_at(&head, 0),
         wire::u16_at(&head, 2),
         wire::u16_at(&head, 4),
-    );
-    true
+    )?;
+    Ok(true)
 }
 
-fn judge_all(file: i32) {
+fn judge_all<R: Read, W: Write>(out: &mut W, file: &mut R) -> io::Result<()> {
     for _ in 0..MOST_PAIRS {
-        if !judge_one(file) {
-            return;
+        if !judge_one(out, file)? {
+            return Ok(());
         }
     }
+    Ok(())
 }
 
-fn main() {
-    let file = os::open_read(b"pairs");
-    if file < 0 {
-        print::text(b"no pairs\n");
-        return;
-    }
-    judge_all(file);
-    libc::close(file);
+fn main(rt: HostRuntime) -> io::Result<()> {
+    let mut out = io::writer(&rt);
+    let Ok(mut file) = fs::open(&rt, "pairs") else {
+        print::text(&mut out, b"no pairs\n")?;
+        return Ok(());
+    };
+    judge_all(&mut out, &mut file)
 }

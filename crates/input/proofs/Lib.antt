@@ -1,0 +1,2 @@
+-- What the proofs of readings share.
+pub mod Filled

@@ -1,0 +1,13 @@
+use Rattle.std.proofs.Common.{rules, subst, refl, ◌-◌, length}
+use Rattle.std.proofs.KnownBytes.{Consumes-trans}
+use Rattle.std.proofs.lemmas.Slice.{take-put_mid}
+use Rattle.std.specs.Io.KnownBytes.{Consumes}
+use Rattle.input.proofs.Filled.{filled_then}
+use Rattle.input.proofs.read.Goals as goal
+
+pub loop-done-preserved : goal.loop-done-preserved
+loop-done-preserved g c =
+    let l = c.loop-done in
+    let rest = c.read_some.new.rest in
+    let joined = filled_then l.done c.in-Held.more l.buf rest _ (take-put_mid l.done (length l.buf - l.done) l.buf rest _ refl l.invariant.0) l.invariant.0 (search rules) in
+    (search rules, subst (Consumes _ _) joined (Consumes-trans _ _ _ _ _ l.invariant.1 c.in-Held.ensures.bytes.0))

@@ -1,0 +1,2 @@
+-- What the printed bytes are.
+pub mod Hex
