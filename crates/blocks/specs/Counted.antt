@@ -5,16 +5,16 @@ use Rattle.std.proofs.Math.Path.{sym}
 use Rattle.whole.specs.Whole.{sum, at, above_zero}
 use Rattle.whole.specs.Whole as places
 use Rattle.whole.specs.Ring.{given, linear, le_z_true}
-use Rattle.whole.specs.Sums.{sum_next}
-use Rattle.whole.specs.Size.{abs_le, abs-+, abs--, at_size, above_zero_size, sum_within}
-use Rattle.stages.specs.First.{eqb_is}
+use Rattle.whole.proofs.Sums.{sum_next}
+use Rattle.whole.proofs.Size.{abs_le, abs-+, abs--, at_size, above_zero_size, sum_within}
+use Rattle.stages.proofs.FirstLaws.{eqb_is}
 use Rattle.cells.specs.Cells.{at_none, Gained, Within, buyers, sellers, traded, shortfall, nothing_gained, gained_then, gained_same, within_gained}
 use Rattle.limits.specs.Limits.{most_periods, most_blocks, most_price, most_volume, most_ratio}
 use Rattle.market.specs.Market.{block_volume, whole_surplus, missed}
 use Rattle.market.specs.Rules.{test, ratio_ok, whole_ok, block_ok}
-use Rattle.market.specs.RuleLaws.{rejected_never_refused}
+use Rattle.market.proofs.RuleLaws.{rejected_never_refused}
 use Rattle.market.specs.Measures.{block_measured}
-use Rattle.market.specs.MeasureLaws.{measured_size, whole_is, left_is}
+use Rattle.market.proofs.MeasureLaws.{measured_size, whole_is, left_is}
 use Rattle.market.specs.declared.Side.{Side}
 use Rattle.market.specs.declared.Side.TheVariants.{Sell, Buy}
 use Rattle.market.specs.declared.Block.{Block}

@@ -6,14 +6,14 @@ use Rattle.std.proofs.lemmas.Nat.{and_le_l, and_le_r}
 use Rattle.std.specs.Int.{w64}
 use Rattle.whole.specs.Whole.{◌≼◌, sum, at}
 use Rattle.whole.specs.Ring.{given, linear, le_z_true}
-use Rattle.whole.specs.Sums.{sums, sum_next, sum_nonneg}
-use Rattle.whole.specs.Size.{abs_neg, abs-+, at_size, sum_within, fits_i64}
+use Rattle.whole.proofs.Sums.{sums, sum_next, sum_nonneg}
+use Rattle.whole.proofs.Size.{abs_neg, abs-+, at_size, sum_within, fits_i64}
 use Rattle.cells.specs.Cells.{at_none, Within, added, buyers, sellers, traded, nothing_gained, gained_at, gained_then, gained_same, within_gained}
-use Rattle.stages.specs.First.{both, leb_is, ltb_is, eqb_is}
+use Rattle.stages.proofs.FirstLaws.{both, leb_is, ltb_is, eqb_is}
 use Rattle.limits.specs.Limits.{most_periods, most_price, most_volume, most_ratio, is_price}
 use Rattle.market.specs.Market.{block_volume}
 use Rattle.market.specs.Rules.{whole_ok}
-use Rattle.market.specs.MeasureLaws.{thousandths_most}
+use Rattle.market.proofs.MeasureLaws.{thousandths_most}
 use Rattle.market.specs.declared.Side.{Side}
 use Rattle.market.specs.declared.Side.TheVariants.{Sell, Buy}
 use Rattle.rows.specs.Rows.{block_zone, block_side, block_least, block_price}

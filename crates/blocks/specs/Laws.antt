@@ -5,15 +5,15 @@ use Rattle.std.proofs.Math.Path.{refl}
 use Rattle.std.proofs.Math.IntN.{pos, zero-*ℤ}
 use Rattle.whole.specs.Whole.{◌≼◌, sum, at}
 use Rattle.whole.specs.Ring.{given, linear}
-use Rattle.whole.specs.Sums.{sums, sum_cong, sum_zero}
+use Rattle.whole.proofs.Sums.{sums, sum_cong, sum_zero}
 use Rattle.limits.specs.Limits.{most_price, most_ratio}
 use Rattle.cells.specs.Cells.{at_none, at_neg}
 use Rattle.market.specs.Market.{Day, Choice, Prices, block_volume, of_sells, of_buys, margin, surplus_of, whole_surplus}
 use Rattle.market.specs.Rules.{WholeAt}
 use Rattle.market.specs.Measures.{gain, by_side, measured, block_measured}
-use Rattle.market.specs.MeasureLaws.{left_is}
+use Rattle.market.proofs.MeasureLaws.{left_is}
 use Rattle.market.specs.Margins.{block_surplus, with_left}
-use Rattle.market.specs.Kinds.{in_thousandths}
+use Rattle.market.proofs.KindLaws.{in_thousandths}
 use Rattle.market.specs.declared.Side.{Side}
 use Rattle.market.specs.declared.Side.TheVariants.{Sell, Buy}
 use Rattle.market.specs.declared.Measure.TheVariants.{Buyers, Sellers, Traded, Surplus, Net}

@@ -4,13 +4,13 @@ use Rattle.std.specs.Prelude.{ℕ, ◌≤◌, List, ℤ, pos, nat_abs}
 use Rattle.std.proofs.Common.{le_refl, arith, subst}
 use Rattle.whole.specs.Whole.{◌≼◌, sum}
 use Rattle.whole.specs.Ring.{linear}
-use Rattle.whole.specs.Size.{abs_le, abs-+}
+use Rattle.whole.proofs.Size.{abs_le, abs-+}
 use Rattle.limits.specs.Limits.{most_price, most_flow}
 use Rattle.rows.specs.Sentences.{IsPrice, IsFlow}
 use Rattle.market.specs.Market.{accepted}
 use Rattle.market.specs.Range.{Placed, Ranged}
 use Rattle.market.specs.Measures.{priced, step_measured, block_measured}
-use Rattle.market.specs.MeasureLaws.{accepted_is, steps_size, blocks_size}
+use Rattle.market.proofs.MeasureLaws.{accepted_is, steps_size, blocks_size}
 use Rattle.market.specs.declared.Measure.{Measure}
 use Rattle.day.specs.declared.Counts.{Counts}
 use Rattle.day.specs.Day.{counts}

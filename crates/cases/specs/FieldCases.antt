@@ -1,15 +1,12 @@
 -- Which field a refusal names: fields of day A and clearing A out of range, by themselves or against those before them, and of a day of two
--- periods. Tables, and one statement about them. Assumes nothing.
-use Rattle.std.specs.Prelude.{ℕ, ◌+◌, refl, List, [], ◌∷◌, ◌++◌, pos, neg_ℤ, length, take, drop}
+-- periods. Tables; the statement about them is in proofs/FieldsShown. Assumes nothing.
+use Rattle.std.specs.Prelude.{ℕ, ◌+◌, List, [], ◌∷◌, ◌++◌, pos, neg_ℤ, length, take, drop}
 use Rattle.stages.specs.Stage.{field_place}
 use Rattle.wire.specs.Bytes.{bytes16, bytes32}
-use Rattle.rows.specs.Rows.{field_ok}
-use Rattle.day.specs.Day.{day_stages}
-use Rattle.clearing.specs.Clearing.{clearing_stages}
 use Rattle.verdict.specs.declared.Outcome.{Outcome}
 use Rattle.verdict.specs.declared.Outcome.TheVariants.{Refused}
 use Rattle.cases.specs.Files.{i32, day_a, clearing_a}
-use Rattle.cases.specs.Cases.{Case, Shown}
+use Rattle.cases.specs.Cases.{Case}
 
 -- a file with other bytes from a place on
 abbrev put : ℕ → List ℕ → List ℕ → List ℕ
@@ -104,26 +101,3 @@ of_clearing =
     ∷ in_clearing 30 (bytes32 1000001) (field 7 3 3 0)
     ∷ in_clearing 36 (bytes16 1001) (field 7 4 0 0)
     ∷ []
-
-network_shown : Shown of_network
-unfolding day_stages clearing_stages field_ok
-network_shown = (refl, (refl, (refl, (refl, (refl, (refl, (refl, (refl, (refl, (refl, tt))))))))))
-
-step_shown : Shown of_step
-unfolding day_stages clearing_stages field_ok
-step_shown = (refl, (refl, (refl, (refl, (refl, (refl, (refl, (refl, tt))))))))
-
-block_shown : Shown of_block
-unfolding day_stages clearing_stages field_ok
-block_shown = (refl, (refl, (refl, (refl, (refl, (refl, (refl, tt)))))))
-
-two_periods_shown : Shown of_two_periods
-unfolding day_stages clearing_stages field_ok
-two_periods_shown = (refl, (refl, (refl, (refl, (refl, (refl, tt))))))
-
-clearing_shown : Shown of_clearing
-unfolding day_stages clearing_stages field_ok
-clearing_shown = (refl, (refl, (refl, (refl, tt))))
-
-pub shown : Shown of_network × (Shown of_step × (Shown of_block × (Shown of_two_periods × Shown of_clearing)))
-shown = (network_shown, (step_shown, (block_shown, (two_periods_shown, clearing_shown))))

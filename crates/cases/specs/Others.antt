@@ -1,20 +1,18 @@
 -- Demand 3 by examples: other choices for day A, each of them allowed, with its order value; and a day on which another choice is worth more
--- than the accepted clearing, by just the shortfall, so that the bound needs it and cannot be lower. Assumes nothing.
-use Rattle.std.specs.Prelude.{ℕ, ◌≡◌, refl, List, [], ◌∷◌, ℤ, pos, get_or}
-use Rattle.std.proofs.Common.{arith, subst}
-use Rattle.whole.specs.Whole.{◌≼◌, sum, at, above_zero}
+-- than the accepted clearing, by just the shortfall, so that the bound needs it (proofs/Needed) and cannot be lower. Assumes nothing.
+use Rattle.std.specs.Prelude.{ℕ, ◌≡◌, refl, List, [], ◌∷◌, pos, get_or}
+use Rattle.std.proofs.Common.{arith}
+use Rattle.whole.specs.Whole.{sum, at, above_zero}
 use Rattle.rows.specs.Rows.{field_ok}
 use Rattle.market.specs.Market.{Choice, Prices, order_value, block_volume, surplus_of, rent, shortfall, totals}
 use Rattle.market.specs.Market as market
 use Rattle.market.specs.Rules.{test}
 use Rattle.market.specs.Other.{Allowed}
-use Rattle.market.specs.RuleLaws.{tests_allow}
-use Rattle.market.specs.declared.Totals.{Totals}
+use Rattle.market.proofs.RuleLaws.{tests_allow}
 use Rattle.day.specs.Day.{day_stages}
 use Rattle.clearing.specs.Clearing.{clearing_stages}
 use Rattle.book.specs.Book.{floor_of, ceiling_of, step_of, line_of, forward_of, back_of, block_of, quantity_of, volume_of, ratio_of, prices_of, flow_of}
 use Rattle.verdict.specs.Verdict.{day_of, verdict}
-use Rattle.verdict.specs.declared.Outcome.TheVariants.{Accepted}
 use Rattle.cases.specs.Files.{day_with, day_a, clearing_a}
 use Rattle.cases.specs.Cases.{accepted}
 
@@ -85,10 +83,3 @@ pub half_left : verdict (day_with 500 200 4500) (clearing_a (pos 2000) 5000 500 
 unfolding day_stages clearing_stages field_ok floor_of ceiling_of step_of line_of forward_of back_of block_of quantity_of volume_of ratio_of
     prices_of flow_of test block_volume market.accepted surplus_of rent shortfall totals sum at above_zero
 half_left = refl
-
--- so the bound does not hold without the shortfall
-pub shortfall_needed : ¬ ((day clearing : List ℕ) (room : ℕ) (t : Totals) → verdict day clearing room ≡ Accepted t →
-    (other : Choice) → Allowed (day_of day) other → order_value (day_of day) other ≼ t.value)
-shortfall_needed bound =
-    let other = shown.1.1.1.0 in
-    (subst (λ (value : ℤ). value ≼ pos 4700000) other.1 (bound _ _ 60 _ left_out _ other.0)).le

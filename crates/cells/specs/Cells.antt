@@ -8,8 +8,8 @@ use Rattle.std.proofs.Math.Arith.{digits_div, digits_mod}
 use Rattle.std.proofs.Math.IntN.{+ℤ_idr, +ℤ_assoc}
 use Rattle.std.proofs.lemmas.List.{length-replicate, get_or-replicate}
 use Rattle.whole.specs.Whole.{at}
-use Rattle.whole.specs.Sums.{at_same, at_other}
-use Rattle.whole.specs.Size.{abs-+}
+use Rattle.whole.proofs.Sums.{at_same, at_other}
+use Rattle.whole.proofs.Size.{abs-+}
 
 -- x more in the cell k
 abbrev pub added : List ℤ → ℕ → ℤ → List ℤ

@@ -1,7 +1,8 @@
 -- The stages of a clearing file from each section on, as the readers hand on what is left of the file. Assumes nothing.
 use Rattle.std.specs.Prelude.{ℕ, ◌*◌, List, ◌++◌, ◌≡◌}
 use Rattle.std.proofs.Common.{◌∙◌}
-use Rattle.stages.specs.Stage.{Stage, first_fault, fault-++, means, answer}
+use Rattle.stages.specs.Stage.{Stage, first_fault, answer}
+use Rattle.stages.proofs.StageLaws.{fault-++, means}
 use Rattle.stages.specs.declared.Place.{Place}
 use Rattle.stages.specs.declared.Fault.TheVariants.{Broken, Clean}
 use Rattle.sections.specs.Section.{after, ended}

@@ -1,11 +1,12 @@
 -- What a day file that reads without fault guarantees, and what the reader's two answers mean. Assumes nothing.
 use Rattle.std.specs.Prelude.{ℕ, ◌+◌, ◌*◌, ◌<◌, ◌≤◌, ◌≡◌, refl, ◌↔◌, List, length}
 use Rattle.std.proofs.Common.{mul-le-mul, arith, sym, ap, ◌∙◌}
-use Rattle.stages.specs.Stage.{Means, means, first_fault, answer_fault, answer_good, answer_bad}
+use Rattle.stages.specs.Stage.{Means, first_fault}
+use Rattle.stages.proofs.StageLaws.{means, answer_fault, answer_good, answer_bad}
 use Rattle.stages.specs.declared.Place.{Place}
 use Rattle.stages.specs.declared.Fault.TheVariants.{Broken, Clean}
 use Rattle.sections.specs.Section.{count, ended}
-use Rattle.sections.specs.Good.{ended_clean, part_length}
+use Rattle.sections.proofs.GoodLaws.{ended_clean, part_length}
 use Rattle.limits.specs.Limits.{most_periods, most_zones, most_lines, most_steps, most_blocks}
 use Rattle.rows.specs.Rows.{row_size, row_start}
 use Rattle.rows.specs.Sentences.{PeriodRow, ZoneRow, LineRow, StepRow, BlockRow, period_row, zone_row, line_row, step_row, block_row}

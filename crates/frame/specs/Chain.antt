@@ -1,12 +1,13 @@
 -- What is known of a file from each section on, as the functions hand on what is left of it. Assumes nothing.
 use Rattle.std.specs.Prelude.{ℕ, ◌+◌, ◌*◌, ◌≤◌, ◌≡◌, List, length}
 use Rattle.std.proofs.Common.{arith, sym, subst, ap, ◌∙◌}
-use Rattle.stages.specs.Stage.{means}
+use Rattle.stages.proofs.StageLaws.{means}
 use Rattle.stages.specs.declared.Fault.TheVariants.{Clean}
 use Rattle.limits.specs.Limits.{most_periods, most_zones, most_lines, most_steps, most_blocks}
 use Rattle.sections.specs.Section.{count, after}
 use Rattle.sections.specs.Answer.{Read, head_of, head_read, head_same, section_read, section_fault, fault_of}
-use Rattle.sections.specs.Good.{Head, head, section_clean}
+use Rattle.sections.specs.Good.{Head}
+use Rattle.sections.proofs.GoodLaws.{head, section_clean}
 use Rattle.sections.specs.declared.Section.{Section}
 use Rattle.sections.specs.declared.Section.TheVariants.{Rows, CutOff, Beyond, BadRow}
 use Rattle.rows.specs.Rows.{row_size, field_count, field_ok}

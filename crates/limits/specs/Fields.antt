@@ -1,7 +1,8 @@
 -- A row's rule is a test for each of its fields, in row order. Assumes nothing.
 use Rattle.std.specs.Prelude.{ℕ, zero, suc, ◌+◌, ◌<◌, ◌≡◌, refl, Bool, true, false, ◌&&◌, List, [], ◌∷◌, eqb, length, get_or}
 use Rattle.std.proofs.Common.{zero-add, suc-add, le_of_suc-le-suc, not-suc-le-zero, arith, eq-eqb, ne_eqb}
-use Rattle.stages.specs.First.{every, or_else, bad_at, first_bad, found_nothing, every_first, same_first}
+use Rattle.stages.specs.First.{every, or_else, bad_at, first_bad, found_nothing}
+use Rattle.stages.proofs.FirstLaws.{every_first, same_first}
 use Rattle.stages.specs.declared.Found.{Found}
 use Rattle.stages.specs.declared.Found.TheVariants.{At, Nothing}
 

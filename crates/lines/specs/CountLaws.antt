@@ -8,15 +8,15 @@ use Rattle.std.proofs.lemmas.Int.{to_z-of_z}
 use Rattle.whole.specs.Whole as whole
 use Rattle.whole.specs.Whole.{◌≼◌, ◌≺◌, sum, at}
 use Rattle.whole.specs.Ring.{le_z_true, le_z_false, ≼_refl, ≼_trans, ≼_of_<, neg_anti, pos-≼}
-use Rattle.whole.specs.Sums.{at_same, at_other, sum_next, sum_zero, sum_only}
-use Rattle.whole.specs.Size.{abs_le, abs_neg, abs-+, abs--, abs-*-≤, at_size, sum_within, fits_i64}
-use Rattle.stages.specs.First.{both, apart, ltb_is, eqb_is, not_is}
+use Rattle.whole.proofs.Sums.{at_same, at_other, sum_next, sum_zero, sum_only}
+use Rattle.whole.proofs.Size.{abs_le, abs_neg, abs-+, abs--, abs-*-≤, at_size, sum_within, fits_i64}
+use Rattle.stages.proofs.FirstLaws.{both, apart, ltb_is, eqb_is, not_is}
 use Rattle.cells.specs.Cells.{added, Gained, Within, rent, nothing_gained, gained_at, gained_then, gained_same, within_gained, cell_below}
 use Rattle.limits.specs.Limits.{most_periods, most_lines, most_price, most_flow, most_volume}
 use Rattle.market.specs.Market.{rent_at}
 use Rattle.market.specs.Rules.{test, line_ok}
 use Rattle.market.specs.Measures.{line_leaves}
-use Rattle.market.specs.MeasureLaws.{net_flow_size}
+use Rattle.market.proofs.MeasureLaws.{net_flow_size}
 use Rattle.market.specs.declared.Line.{Line}
 use Rattle.rows.specs.Rows.{row_start, from, to, forward, back}
 use Rattle.rows.specs.Sentences.{IsPrice, IsFlow}

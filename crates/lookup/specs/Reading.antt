@@ -1,7 +1,8 @@
 -- What the look-up's reading of the day file answers, and what follows for the part and the refusal. Assumes nothing.
 use Rattle.std.specs.Prelude.{ℕ, ◌+◌, ◌≡◌, refl, List, []}
 use Rattle.std.proofs.Common.{add_assoc, sym, ap, ◌∙◌}
-use Rattle.stages.specs.Stage.{means, first_fault, answer, answer_fault}
+use Rattle.stages.specs.Stage.{first_fault, answer}
+use Rattle.stages.proofs.StageLaws.{means, answer_fault}
 use Rattle.stages.specs.declared.Place.{Place}
 use Rattle.stages.specs.declared.Fault.TheVariants.{Broken, Clean}
 use Rattle.sections.specs.Section.{onward}

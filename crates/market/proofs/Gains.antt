@@ -7,7 +7,7 @@ use lib.Signed.{mag}
 use mir.Syntax.{w64}
 use mir.Val.{SFits, hbits, to_z, of_z}
 use mir.ValLaws.{to_z-of_z}
-use Rattle.whole.specs.Size.{same}
+use Rattle.whole.proofs.Size.{same}
 use Rattle.market.specs.Measures.{gain}
 
 pub gained : (get ask : ℤ) (volume : ℕ) → SFits w64 get → SFits w64 ask → {r : ℤ} → mag r < 2 ^ hbits w64 →

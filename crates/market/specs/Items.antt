@@ -7,7 +7,7 @@ use Rattle.std.proofs.Math.Path.{ap}
 use Rattle.std.proofs.Math.IntN.{+ℤ_idr, *ℤ-zero}
 use Rattle.whole.specs.Whole.{sum, at}
 use Rattle.whole.specs.Ring.{linear, *-+}
-use Rattle.whole.specs.Sums.{sum-+, sum_scale, sum_cong, sum_zero, sum_swap, sum_only, at_same, at_other}
+use Rattle.whole.proofs.Sums.{sum-+, sum_scale, sum_cong, sum_zero, sum_swap, sum_only, at_same, at_other}
 use Rattle.market.specs.Market.{Day, Prices}
 
 pub record Item : Type 0 where

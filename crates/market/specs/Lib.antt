@@ -10,13 +10,5 @@ pub mod Range
 pub mod Margins
 -- What steps, blocks and lines share: a value, what it brings to each zone and period, a surplus; and that these add up.
 pub mod Items
--- That steps, lines and blocks are priced and best.
-pub mod Kinds
--- That no other choice is worth more, but for the shortfall, and that the surpluses and the rent add up to the order value.
-pub mod Welfare
--- That a test passes just where its sentence holds, and what follows: neither rent nor shortfall is below zero.
-pub mod RuleLaws
 -- What is counted of one trade, of a step and of a block.
 pub mod Measures
--- That the sums of what is counted are the totals and the net positions, and how large they are.
-pub mod MeasureLaws

@@ -5,7 +5,7 @@ use Rattle.std.specs.Prelude.{ℕ, ◌≡◌, refl, ◌↔◌, ℤ, pos, ◌+ℤ
 use Rattle.std.proofs.Common.{arith}
 use Rattle.whole.specs.Whole.{◌≼◌, ◌≺◌, sum}
 use Rattle.whole.specs.Ring.{linear}
-use Rattle.whole.specs.Sums.{sums}
+use Rattle.whole.proofs.Sums.{sums}
 use Rattle.market.specs.Market.{Day, Choice, Prices, block_volume, of_sells, of_buys, margin, accepted, surplus_of, whole_surplus, left_surplus}
 use Rattle.market.specs.Rules.{InTheMoney, OutOfTheMoney, Pays}
 use Rattle.market.specs.declared.Side.{Side}

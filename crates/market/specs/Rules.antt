@@ -1,5 +1,5 @@
 -- The rules of a clearing, 11 to 17, 20 and 21: each as a sentence in the rule paper's words, at one place and at all of them, and as the
--- test that is made at one place. That a test passes just where its sentence holds is proved in the file after this one. Assumes nothing.
+-- test that is made at one place. That a test passes just where its sentence holds is proved in proofs/RuleLaws. Assumes nothing.
 use Rattle.std.specs.Prelude.{ℕ, ◌*◌, ◌%◌, ◌<◌, ◌≤◌, ◌≡◌, Bool, ◌&&◌, ◌||◌, List, [], ◌∷◌, leb, eqb, ℤ, pos, neg_ℤ, ◌-ℤ◌, ◌*ℤ◌}
 use Rattle.std.specs.Int.Signed.{le_z}
 use Rattle.whole.specs.Whole.{◌≼◌, ◌≺◌, sum}

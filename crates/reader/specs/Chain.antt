@@ -1,13 +1,15 @@
 -- A section's answer taken apart. Assumes nothing.
 use Rattle.std.specs.Prelude.{ℕ, ◌≡◌, ◌↔◌, List, ◌++◌}
 use Rattle.std.proofs.Common.{◌∙◌, inl, inr, ⊎_elim}
-use Rattle.stages.specs.Stage.{Stage, field_place, Means, clean-++, first_fault, answer}
+use Rattle.stages.specs.Stage.{Stage, field_place, Means, first_fault, answer}
+use Rattle.stages.proofs.StageLaws.{clean-++}
 use Rattle.stages.specs.Lists.{broken-++}
 use Rattle.stages.specs.declared.Place.{Place}
 use Rattle.stages.specs.declared.Fault.TheVariants.{Broken, Clean}
 use Rattle.sections.specs.Section.{Numbers, count, after}
 use Rattle.sections.specs.Answer.{Read, reading_rows, section_read, then_refused, then_good}
-use Rattle.sections.specs.Good.{OwnNumber, section_clean, section_bad}
+use Rattle.sections.specs.Good.{OwnNumber}
+use Rattle.sections.proofs.GoodLaws.{section_clean, section_bad}
 use Rattle.sections.specs.declared.Reading.TheVariants.{Good, Refused}
 use Rattle.rows.specs.Rows.{row_size, field_count, field_ok}
 use Rattle.rows.specs.declared.Kind.{Kind}

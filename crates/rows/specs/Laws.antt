@@ -1,7 +1,8 @@
 -- A row of lines or of blocks: its first fields, and then those of the periods. A row's rule by its kind. Assumes nothing.
 use Rattle.std.specs.Prelude.{ℕ, suc, ◌+◌, ◌*◌, ◌≤◌, ◌≡◌, Bool, ◌&&◌, not, List, leb, length}
 use Rattle.std.proofs.Common.{arith}
-use Rattle.stages.specs.First.{every, or_else, bad_at, first_bad, every_first}
+use Rattle.stages.specs.First.{every, or_else, bad_at, first_bad}
+use Rattle.stages.proofs.FirstLaws.{every_first}
 use Rattle.stages.specs.declared.Found.TheVariants.{At, Nothing}
 use Rattle.limits.specs.Fields.{only, counted_on, first_behind, every_behind, first_with_last, every_with_last}
 use Rattle.limits.specs.Rules.{ends_rule, block_rule}

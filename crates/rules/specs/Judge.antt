@@ -2,7 +2,8 @@
 use Rattle.std.specs.Prelude.{ℕ, ◌<◌, ◌≡◌, Bool, List, [], ◌∷◌, ◌++◌, ℤ}
 use Rattle.std.proofs.Common.{sym, ap, ◌∙◌}
 use Rattle.cells.specs.Cells.{Tabled}
-use Rattle.stages.specs.Stage.{Stage, spot, fault_at, first_fault, or_fault, fault-++}
+use Rattle.stages.specs.Stage.{Stage, spot, fault_at, first_fault, or_fault}
+use Rattle.stages.proofs.StageLaws.{fault-++}
 use Rattle.stages.specs.declared.Spot.{Spot}
 use Rattle.stages.specs.declared.Place.{Place}
 use Rattle.stages.specs.declared.Fault.{Fault}

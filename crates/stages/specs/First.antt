@@ -1,7 +1,5 @@
--- The first row at which a test fails, and the laws by which a loop looks for it. Assumes nothing.
-use Rattle.std.specs.Prelude.{ℕ, zero, suc, ◌+◌, ◌<◌, ◌≤◌, ◌≡◌, refl, ◌⊎◌, ◌↔◌, Bool, true, false, ◌&&◌, not, leb, ltb, eqb}
-use Rattle.std.proofs.Common.{le_of_suc-le-suc, not-suc-le-zero, eq-or-lt_of_le, le_antisymm, add-one, arith, sym, inl, inr, ⊎_elim, leb-true, leb-false, le-leb, ltb-true, lt-ltb, eqb-true, eq-eqb}
-use Rattle.std.proofs.lemmas.Bool.{lt-leb}
+-- The first row at which a test fails. Assumes nothing.
+use Rattle.std.specs.Prelude.{ℕ, zero, suc, ◌<◌, ◌≡◌, Bool, true, false, ◌&&◌}
 use Rattle.stages.specs.declared.Found.{Found}
 use Rattle.stages.specs.declared.Found.TheVariants.{At, Nothing}
 
@@ -32,101 +30,15 @@ abbrev pub Says : ℕ → (ℕ → Bool) → Found → Type 0
 Says n t Nothing = (j : ℕ) → j < n → t j ≡ true
 Says n t (At k) = (k < n) × ((t k ≡ false) × ((j : ℕ) → j < k → t j ≡ true))
 
--- ---- two answers of a test that differ
-
-pub apart : {A : Type 0} {b : Bool} → b ≡ true → b ≡ false → A
-apart e f = let z : ◌≡◌ {A = ℕ} 0 1 = cc in absurd (omega arith)
-
-pub both : (a b : Bool) → ((a && b) ≡ true) ↔ ((a ≡ true) × (b ≡ true))
-both true b = (λ e. (refl, e), λ e. e.1)
-both false b = (λ e. apart e refl, λ e. apart e.0 refl)
-
--- ---- a test's answer, as a fact
-
-pub leb_is : (a b : ℕ) → (leb a b ≡ true) ↔ (a ≤ b)
-leb_is a b = (leb-true a b, le-leb a b)
-
-pub leb_false_is : (a b : ℕ) → (leb a b ≡ false) ↔ (b < a)
-leb_false_is a b = (leb-false a b, lt-leb a b)
-
-pub ltb_is : (a b : ℕ) → (ltb a b ≡ true) ↔ (a < b)
-ltb_is a b = (ltb-true a b, lt-ltb a b)
-
-pub eqb_is : (a b : ℕ) → (eqb a b ≡ true) ↔ (a ≡ b)
-eqb_is a b = (eqb-true a b, eq-eqb a b)
-
-pub not_is : (b : Bool) → (not b ≡ true) ↔ ¬ (b ≡ true)
-not_is true = (λ e _. apart e refl, λ n. absurd (n refl))
-not_is false = (λ _ e. apart e refl, λ _. refl)
-
--- ---- the laws a loop goes by: nothing passed yet; the test holds at i; it fails at i; the end
+-- ---- what a loop knows on its way
 
 -- the test holds at each row below i. A record, so that a law's t and i are read off what it is handed
 pub record Passed (t : ℕ → Bool) (i : ℕ) : Type 0 where
   pub nothing : first_bad i t ≡ Nothing
 
-pub none_yet : (t : ℕ → Bool) → Passed t 0
-none_yet t = record { nothing = refl }
-
-pub more : {t : ℕ → Bool} {i : ℕ} → Passed t i → t i ≡ true → Passed t (i + 1)
-more {t} {i} p e = record { nothing = rw (add-one, p.nothing, e) }
-
-stop_at : {t : ℕ → Bool} {i : ℕ} (n : ℕ) → Passed t i → t i ≡ false → i < n → first_bad n t ≡ At i
-stop_at zero p e l = absurd (not-suc-le-zero l)
-stop_at {t} {i} (suc n) p e l = last (eq-or-lt_of_le (le_of_suc-le-suc l)) (λ m. stop_at n p e m)
-  where
-    last : (i ≡ n) ⊎ (i < n) → (i < n → first_bad n t ≡ At i) → first_bad (suc n) t ≡ At i
-    last (inl q) h = rw (← q, p.nothing, e)
-    last (inr m) h = rw (h m)
-
-pub stop : {t : ℕ → Bool} {i n : ℕ} → Passed t i → t i ≡ false → i < n → At i ≡ first_bad n t
-stop {n = n} p e l = sym (stop_at n p e l)
-
-pub done : {t : ℕ → Bool} {i n : ℕ} → Passed t i → i ≤ n → n ≤ i → Nothing ≡ first_bad n t
-done {t} p l m = rw (le_antisymm l m) at (sym p.nothing)
-
--- ---- the answer says what it means
-
-one_more : (n : ℕ) (t : ℕ → Bool) (f : Found) (b : Bool) → t n ≡ b → Says n t f → Says (suc n) t (or_else f (bad_at b n))
-one_more n t (At k) b e s = (omega (arith, s.0), s.1)
-one_more n t Nothing false e s = (omega arith, (e, s))
-one_more n t Nothing true e s = λ j l. ⊎_elim (λ q. rw q e) (λ m. s j m) (eq-or-lt_of_le (le_of_suc-le-suc l))
-
-pub says : (n : ℕ) (t : ℕ → Bool) → Says n t (first_bad n t)
-says zero t = λ j l. absurd (not-suc-le-zero l)
-says (suc n) t = one_more n t (first_bad n t) (t n) refl (says n t)
-
-pub passed : (t : ℕ → Bool) (n : ℕ) → ((j : ℕ) → j < n → t j ≡ true) → Passed t n
-passed t zero h = none_yet t
-passed t (suc n) h = rw (← add-one) (more (passed t n (λ j l. h j (omega arith))) (h n (omega arith)))
-
 -- ---- every row
-
--- as a sentence
-pub every_is : (n : ℕ) (t : ℕ → Bool) → (every n t ≡ true) ↔ ((j : ℕ) → j < n → t j ≡ true)
-every_is zero t = (λ e j l. absurd (not-suc-le-zero l), λ h. refl)
-every_is (suc n) t = (
-  λ e j l. let b = (both (every n t) (t n)).0 e in
-      ⊎_elim (λ q. rw q b.1) (λ m. (every_is n t).0 b.0 j m) (eq-or-lt_of_le (le_of_suc-le-suc l)),
-  λ h. (both (every n t) (t n)).1 ((every_is n t).1 (λ j l. h j (omega arith)), h n (omega arith)),
-)
 
 -- what a search for a row that fails tells: nothing found, so every row passes; one found, so not every row does
 abbrev pub found_nothing : Found → Bool
 found_nothing (At k) = false
 found_nothing Nothing = true
-
-pub every_first : (n : ℕ) (t : ℕ → Bool) → every n t ≡ found_nothing (first_bad n t)
-every_first zero t = refl
-every_first (suc n) t = rw (every_first n t) (by (first_bad n t) (t n))
-  where
-    by : (f : Found) (b : Bool) → (found_nothing f && b) ≡ found_nothing (or_else f (bad_at b n))
-    by (At k) b = refl
-    by Nothing true = refl
-    by Nothing false = refl
-
--- ---- tests that agree at each row below n
-
-pub same_first : (n : ℕ) (t u : ℕ → Bool) → ((j : ℕ) → j < n → t j ≡ u j) → first_bad n t ≡ first_bad n u
-same_first zero t u h = refl
-same_first (suc n) t u h = rw (same_first n t u (λ j l. h j (omega arith)), h n (omega arith))

@@ -3,12 +3,12 @@ use Rattle.std.specs.Prelude.{ℕ, ◌+◌, ◌*◌, ◌/◌, ◌%◌, ◌<◌, 
 use Rattle.std.proofs.Common.{le_refl, div-lt_iff_lt-mul, mod-lt, arith, sym, SFits}
 use Rattle.std.proofs.Math.Arith.{digits_div, digits_mod}
 use Rattle.std.specs.Int.{w32}
-use Rattle.whole.specs.Size.{fits_i32}
+use Rattle.whole.proofs.Size.{fits_i32}
 use Rattle.cells.specs.Cells.{Tabled, row_tabled}
 use Rattle.market.specs.Market.{net_position}
 use Rattle.market.specs.declared.Totals.{Totals}
 use Rattle.market.specs.Rules.{Balanced}
-use Rattle.market.specs.MeasureLaws.{flows_size, net_flow_is}
+use Rattle.market.proofs.MeasureLaws.{flows_size, net_flow_is}
 use Rattle.day.specs.declared.Counts.{Counts}
 use Rattle.day.specs.Good.{prices_most}
 use Rattle.book.specs.Book.{day_of, choice_of}

@@ -9,12 +9,12 @@ use Rattle.std.proofs.Math.IntN.{pos, +ℤ_idr}
 use Rattle.std.specs.Int.{w64}
 use Rattle.whole.specs.Whole.{sum, at}
 use Rattle.whole.specs.Ring.{linear}
-use Rattle.whole.specs.Sums.{sum_next, sum_only, at_same, at_other}
-use Rattle.whole.specs.Size.{abs-+, at_size, sum_within, fits_i64}
+use Rattle.whole.proofs.Sums.{sum_next, sum_only, at_same, at_other}
+use Rattle.whole.proofs.Size.{abs-+, at_size, sum_within, fits_i64}
 use Rattle.cells.specs.Cells.{added, Tabled, cell_below, more_tabled, same_tabled}
 use Rattle.limits.specs.Limits.{most_periods}
 use Rattle.market.specs.Measures.{by_side, measured, step_measured, block_measured}
-use Rattle.market.specs.MeasureLaws.{net_is, accepted_is, net_flow_is, net_flow_size, steps_size, blocks_size, block_part_size, flows_size}
+use Rattle.market.proofs.MeasureLaws.{net_is, accepted_is, net_flow_is, net_flow_size, steps_size, blocks_size, block_part_size, flows_size}
 use Rattle.market.specs.declared.Side.{Side}
 use Rattle.market.specs.declared.Side.TheVariants.{Sell, Buy}
 use Rattle.market.specs.declared.Trade.{Trade}

@@ -5,8 +5,8 @@ use mir.Val.{SFits, hbits, to_z, of_z}
 use Rattle.std.specs.Int.Signed.{mag}
 use Rattle.std.specs.Int.{w64}
 use Rattle.whole.specs.Whole.{sum}
-use Rattle.whole.specs.Sums.{sum_next}
-use Rattle.whole.specs.Size.{fits_i64, same}
+use Rattle.whole.proofs.Sums.{sum_next}
+use Rattle.whole.proofs.Size.{fits_i64, same}
 
 -- at the place i of n, `all` is the sum of the terms before i
 pub record Summed (f : ℕ → ℤ) (n i : ℕ) (all : ℤ) : Type 0 where

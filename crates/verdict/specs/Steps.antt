@@ -2,13 +2,14 @@
 use Rattle.std.specs.Prelude.{ℕ, ◌≤◌, ◌<◌, ◌≡◌, List, [], ◌∷◌, ◌++◌, length, take, drop}
 use Rattle.std.proofs.Common.{sym, ap, subst, ◌∙◌, length-take-le, le-leb}
 use Rattle.std.proofs.lemmas.Bool.{lt-leb}
-use Rattle.stages.specs.Stage.{Stage, place, first_fault, answer, fault-++, means}
+use Rattle.stages.specs.Stage.{Stage, place, first_fault, answer}
+use Rattle.stages.proofs.StageLaws.{fault-++, means}
 use Rattle.stages.specs.declared.Fault.{Fault}
 use Rattle.stages.specs.declared.Fault.TheVariants.{Broken, Clean}
 use Rattle.stages.specs.declared.Place.{Place}
 use Rattle.wire.specs.Bytes.{put}
 use Rattle.market.specs.Rules.{rule_stages, Lawful}
-use Rattle.market.specs.RuleLaws.{lawful_is}
+use Rattle.market.proofs.RuleLaws.{lawful_is}
 use Rattle.market.specs.declared.Totals.{Totals}
 use Rattle.day.specs.declared.Counts.{Counts}
 use Rattle.day.specs.Day.{counts}

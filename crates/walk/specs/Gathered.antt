@@ -8,16 +8,16 @@ use Rattle.std.proofs.lemmas.List.{length-replicate, get_or-replicate}
 use Rattle.std.specs.Int.{w64}
 use Rattle.whole.specs.Whole.{sum, at}
 use Rattle.whole.specs.Ring.{linear}
-use Rattle.whole.specs.Sums.{sum_zero, sum_cong}
-use Rattle.whole.specs.Size.{fits_i64, abs_le, abs-+, abs--, abs-*-≤, at_size, sum_within}
+use Rattle.whole.proofs.Sums.{sum_zero, sum_cong}
+use Rattle.whole.proofs.Size.{fits_i64, abs_le, abs-+, abs--, abs-*-≤, at_size, sum_within}
 use Rattle.limits.specs.Limits.{most_flow}
 use Rattle.cells.specs.Cells.{Tabled, Within, within_gained, buyers, sellers, rent, traded, shortfall, none_tabled, tabled_gained, same_tabled}
 use Rattle.market.specs.Market as market
 use Rattle.market.specs.Market.{Day, Choice, Prices, net_position, leaving, entering, totals, buyer_surplus, seller_surplus, traded_volume, rent_at, missed}
 use Rattle.market.specs.Rules.{Balanced}
 use Rattle.market.specs.Measures.{priced, block_measured}
-use Rattle.market.specs.MeasureLaws.{rents_size, accepted_is, net_is, net_flow_is, buyers_is, sellers_is, traded_is}
-use Rattle.market.specs.Welfare.{adds_up}
+use Rattle.market.proofs.MeasureLaws.{rents_size, accepted_is, net_is, net_flow_is, buyers_is, sellers_is, traded_is}
+use Rattle.market.proofs.Welfare.{adds_up}
 use Rattle.market.specs.declared.Totals.{Totals}
 use Rattle.market.specs.declared.Measure.{Measure}
 use Rattle.market.specs.declared.Measure.TheVariants.{Buyers, Sellers, Traded, Net}

@@ -2,7 +2,7 @@
 use Rattle.std.proofs.Common.{◌*◌, ◌≤◌, mul-le-mul, arith, ◌≡◌, ◌∙◌, pos, nat_abs, ◌-ℤ◌, w64, to_z, of_z}
 use Rattle.std.proofs.lemmas.Int.{to_z-of_z}
 use Rattle.whole.specs.Ring.{given, linear}
-use Rattle.whole.specs.Size.{sum_within, same}
+use Rattle.whole.proofs.Size.{sum_within, same}
 use Rattle.cells.specs.Cells.{Gained, gained_then, within_gained}
 use Rattle.limits.specs.Limits.{most_periods, most_volume}
 use Rattle.rows.specs.Rows.{block_quantity}

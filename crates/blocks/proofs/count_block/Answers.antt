@@ -1,6 +1,6 @@
 -- `blocks::count_block` meets its contract: what passed its tests is sure, and what it gave is counted. Assumes nothing.
 use Rattle.std.proofs.Common.{rules, ◌+◌, ◌*◌, ◌≤◌, ◌<◌, ℕ, le_trans, arith, ◌≡◌, sym, ◌∙◌, nat_abs, length, w64, to_z, of_z}
-use Rattle.whole.specs.Size.{abs_le, same}
+use Rattle.whole.proofs.Size.{abs_le, same}
 use Rattle.limits.specs.Limits.{most_price}
 use Rattle.day.specs.Good.{prices_most}
 use Rattle.book.specs.DayRows.{block_within}

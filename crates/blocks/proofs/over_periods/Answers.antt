@@ -1,6 +1,6 @@
 -- `blocks::over_periods` meets its contract: each period adds its quantity, and it at its raised price. Assumes nothing.
 use Rattle.std.proofs.Common.{arith, ◌∙◌}
-use Rattle.whole.specs.Size.{same}
+use Rattle.whole.proofs.Size.{same}
 use Rattle.blocks.specs.Gather.{none_walked, more_walked}
 use Rattle.blocks.proofs.over_periods.Goals as goal
 

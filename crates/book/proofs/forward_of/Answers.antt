@@ -1,6 +1,6 @@
 -- `book::forward_of` meets its contract. Assumes nothing.
 use Rattle.std.proofs.Common.{◌∙◌}
-use Rattle.whole.specs.Size.{same}
+use Rattle.whole.proofs.Size.{same}
 use Rattle.book.specs.Book.{forward_of}
 use Rattle.book.proofs.forward_of.Goals as goal
 

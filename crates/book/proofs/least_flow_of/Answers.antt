@@ -1,6 +1,6 @@
 -- `book::least_flow_of` meets its contract. Assumes nothing.
 use Rattle.std.proofs.Common.{◌∙◌}
-use Rattle.whole.specs.Size.{same}
+use Rattle.whole.proofs.Size.{same}
 use Rattle.book.specs.Book.{back_of}
 use Rattle.book.proofs.least_flow_of.Goals as goal
 

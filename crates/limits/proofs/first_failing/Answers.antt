@@ -1,5 +1,5 @@
 use Rattle.std.proofs.Common.{◌≡◌, ◌∙◌, arith}
-use Rattle.stages.specs.First.{more, stop, done}
+use Rattle.stages.proofs.FirstLaws.{more, stop, done}
 use Rattle.limits.specs.Fields.{only, only_at}
 use Rattle.limits.proofs.first_failing.Goals as goal
 

@@ -1,7 +1,7 @@
 -- `lines::carry` meets its contract. Assumes nothing.
 use Rattle.std.proofs.Common.{ap, ◌∙◌, neg_ℤ, w64}
 use Rattle.std.proofs.lemmas.Int.{to_z-of_z}
-use Rattle.whole.specs.Size.{same}
+use Rattle.whole.proofs.Size.{same}
 use Rattle.lines.specs.CountLaws.{both_gained}
 use Rattle.lines.proofs.carry.Goals as goal
 

@@ -1,6 +1,6 @@
 -- `lines::count_flow` meets its contract. Assumes nothing.
 use Rattle.std.proofs.Common.{◌≡◌, ◌∙◌, w64, to_z, of_z}
-use Rattle.whole.specs.Size.{same}
+use Rattle.whole.proofs.Size.{same}
 use Rattle.book.specs.Book.{flow_of, prices_of}
 use Rattle.lines.specs.Counted.{FlowSure}
 use Rattle.lines.specs.CountLaws.{rent_asks, rent_fits, flow_carries, flow_counted}

@@ -1,6 +1,6 @@
 -- `lines::period_sure` meets its contract: one zone more, whose price was tested. Assumes nothing.
 use Rattle.std.proofs.Common.{sym, ◌∙◌, arith}
-use Rattle.whole.specs.Size.{same}
+use Rattle.whole.proofs.Size.{same}
 use Rattle.lines.specs.CountLaws.{more_below}
 use Rattle.lines.proofs.period_sure.Goals as goal
 

@@ -1,6 +1,6 @@
 -- `lines::prices_sure` meets its contract. Assumes nothing.
 use Rattle.std.proofs.Common.{arith, ◌∙◌}
-use Rattle.whole.specs.Size.{same}
+use Rattle.whole.proofs.Size.{same}
 use Rattle.lines.specs.CountLaws.{more_below, all_below, sure_price}
 use Rattle.lines.proofs.prices_sure.Goals as goal
 

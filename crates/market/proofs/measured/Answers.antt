@@ -1,7 +1,7 @@
 -- `market::measured` meets its contract. Assumes nothing.
 use Rattle.std.proofs.Common.{◌≡◌, sym, ap, ℤ, w64, rules}
 use Rattle.std.proofs.lemmas.Int.{to_z-of_z}
-use Rattle.whole.specs.Size.{same}
+use Rattle.whole.proofs.Size.{same}
 use Rattle.market.specs.Measures.{measured, by_side, sold, bought}
 use Rattle.market.specs.declared.Side.{Side}
 use Rattle.market.specs.declared.Trade.{Trade}

@@ -1,7 +1,7 @@
 -- `market::rent` meets its contract. Assumes nothing.
 use Rattle.std.proofs.Common.{◌≤◌, arith, ◌≡◌, ap, ◌∙◌, ℤ, nat_abs, ◌-ℤ◌, ◌*ℤ◌, w64, SFits, to_z, of_z}
 use Rattle.std.proofs.lemmas.Int.{to_z-of_z}
-use Rattle.whole.specs.Size.{abs--, abs-*-≤, fits_i64}
+use Rattle.whole.proofs.Size.{abs--, abs-*-≤, fits_i64}
 use Rattle.limits.specs.Limits.{most_flow, most_price}
 use Rattle.market.proofs.rent.Goals as goal
 use Rattle.market.proofs.rent.Goals.{Start}

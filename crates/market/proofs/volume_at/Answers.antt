@@ -1,7 +1,7 @@
 -- `market::volume_at` meets its contract. Assumes nothing.
 use Rattle.std.proofs.Common.{ℕ, arith, ◌≡◌, refl, ◌∙◌, Bool, true, false, cond, ◌&&◌, eqb, ℤ, pos}
 use Rattle.whole.specs.Whole.{at}
-use Rattle.whole.specs.Size.{same}
+use Rattle.whole.proofs.Size.{same}
 use Rattle.market.specs.Market.{volume_at}
 use Rattle.market.specs.declared.Trade.{Trade}
 use Rattle.market.proofs.volume_at.Goals as goal

@@ -1,6 +1,6 @@
 -- `reader::bad_field` meets its contract: the rows before i obey their rule. Assumes nothing.
 use Rattle.std.proofs.Common.{sym, ◌∙◌, ◌-◌, arith}
-use Rattle.stages.specs.Table.{row_fails}
+use Rattle.stages.proofs.TableLaws.{row_fails}
 use Rattle.reader.proofs.bad_field.Goals as goal
 
 pub returns-in-At : goal.returns-in-At

@@ -2,7 +2,7 @@
 use Rattle.std.proofs.lemmas.Bool.{lt-leb}
 use Rattle.std.proofs.Common.{sym, ap, ◌∙◌, ℕ, ◌-◌, arith, leb}
 use Rattle.wire.specs.Bytes.{u32_at}
-use Rattle.stages.specs.First.{stop, done}
+use Rattle.stages.proofs.FirstLaws.{stop, done}
 use Rattle.limits.specs.Fields.{counted_on, counted, counted_none}
 use Rattle.rows.proofs.first_above.Goals as goal
 

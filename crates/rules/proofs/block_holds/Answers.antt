@@ -1,5 +1,5 @@
 -- `rules::block_holds` meets its contract. Assumes nothing.
-use Rattle.whole.specs.Size.{same}
+use Rattle.whole.proofs.Size.{same}
 use Rattle.market.specs.Rules.{test}
 use Rattle.rules.proofs.block_holds.Goals as goal
 

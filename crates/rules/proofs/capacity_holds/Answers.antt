@@ -1,5 +1,5 @@
 -- `rules::capacity_holds` meets its contract. Assumes nothing.
-use Rattle.whole.specs.Size.{same}
+use Rattle.whole.proofs.Size.{same}
 use Rattle.market.specs.Rules.{test}
 use Rattle.rules.proofs.capacity_holds.Goals as goal
 

@@ -1,6 +1,6 @@
 -- `rules::line_holds` meets its contract. Assumes nothing.
 use Rattle.book.specs.Ranges.{placed}
-use Rattle.whole.specs.Size.{same}
+use Rattle.whole.proofs.Size.{same}
 use Rattle.market.specs.Rules.{test}
 use Rattle.rules.proofs.line_holds.Goals as goal
 

@@ -2,7 +2,7 @@
 use Rattle.std.proofs.Common.{w64}
 use Rattle.std.proofs.lemmas.Int.{to_z-of_z}
 use Rattle.book.specs.Ranges.{placed}
-use Rattle.whole.specs.Size.{same}
+use Rattle.whole.proofs.Size.{same}
 use Rattle.market.specs.Rules.{test}
 use Rattle.rules.proofs.step_holds.Goals as goal
 

@@ -1,6 +1,6 @@
 -- What is put in so far, and one net position more behind it.
 use Rattle.std.proofs.Common.{pos, get_or, sym, ◌∙◌, arith, rules}
-use Rattle.whole.specs.Size.{same}
+use Rattle.whole.proofs.Size.{same}
 use Rattle.statement.specs.Laws.{nets_none, net_more}
 use Rattle.statement.proofs.put_nets.Goals as goal
 

@@ -1,9 +1,9 @@
 -- `steps::count_sold` meets its contract. Assumes nothing.
 use Rattle.std.proofs.Common.{arith, ◌≡◌, sym, ◌∙◌, true, ◌&&◌, ◌≤◌, leb, w64, to_z, of_z, pos, get_or}
 use Rattle.std.proofs.lemmas.Int.{to_z-of_z}
-use Rattle.whole.specs.Size.{same}
+use Rattle.whole.proofs.Size.{same}
 use Rattle.whole.specs.Ring.{given, linear}
-use Rattle.stages.specs.First.{both, leb_is}
+use Rattle.stages.proofs.FirstLaws.{both, leb_is}
 use Rattle.limits.specs.Limits.{most_volume}
 use Rattle.cells.specs.Cells.{sellers}
 use Rattle.market.specs.Rules.{full_or_none}

@@ -1,6 +1,6 @@
 -- `steps::know` meets its contract. Assumes nothing.
 use Rattle.std.proofs.Common.{◌+◌, ◌*◌, ◌<◌, arith, ◌≡◌, refl, ◌∙◌, w64, to_z, of_z}
-use Rattle.whole.specs.Size.{same}
+use Rattle.whole.proofs.Size.{same}
 use Rattle.book.specs.Book.{prices_of}
 use Rattle.steps.specs.Known.{Known, more_known, sell_head, buy_head}
 use Rattle.steps.proofs.know.Goals as goal

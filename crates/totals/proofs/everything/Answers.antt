@@ -1,8 +1,8 @@
 -- `totals::everything` meets its contract. Assumes nothing.
 use Rattle.std.proofs.Common.{ℕ, le_refl, arith, ◌≡◌, sym, ◌∙◌, List, ◌+ℤ◌, w64, SFits, to_z, of_z}
 use Rattle.whole.specs.Whole.{sum}
-use Rattle.whole.specs.Size.{abs-+, fits_i64, same}
-use Rattle.market.specs.MeasureLaws.{accepted_is, steps_size, blocks_size}
+use Rattle.whole.proofs.Size.{abs-+, fits_i64, same}
+use Rattle.market.proofs.MeasureLaws.{accepted_is, steps_size, blocks_size}
 use Rattle.market.specs.declared.Measure.{Measure}
 use Rattle.day.specs.declared.Counts.{Counts}
 use Rattle.book.specs.Book.{day_of, prices_of, choice_of}

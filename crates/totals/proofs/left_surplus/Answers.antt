@@ -1,7 +1,7 @@
 -- `totals::left_surplus` meets its contract. Assumes nothing.
 use Rattle.std.proofs.Common.{◌≡◌, sym, subst, ◌∙◌, ◌-ℤ◌, w64, SFits, to_z, of_z, arith}
-use Rattle.whole.specs.Size.{same, fits_i64}
-use Rattle.market.specs.MeasureLaws.{left_is, left_size}
+use Rattle.whole.proofs.Size.{same, fits_i64}
+use Rattle.market.proofs.MeasureLaws.{left_is, left_size}
 use Rattle.book.specs.Book.{day_of, prices_of, choice_of}
 use Rattle.book.specs.Ranges.{placed, ranged}
 use Rattle.totals.specs.Sums.{left_surplus}

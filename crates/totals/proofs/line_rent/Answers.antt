@@ -1,6 +1,6 @@
 -- `totals::line_rent` meets its contract. Assumes nothing.
 use Rattle.std.proofs.Common.{◌-◌, arith}
-use Rattle.market.specs.MeasureLaws.{rent_part_size}
+use Rattle.market.proofs.MeasureLaws.{rent_part_size}
 use Rattle.book.specs.Ranges.{placed, ranged}
 use Rattle.totals.specs.Sums.{rent_at}
 use Rattle.totals.specs.Loops.{none_summed, more_fits, more_summed}

@@ -1,7 +1,7 @@
 -- `totals::one_period` meets its contract. Assumes nothing.
 use Rattle.std.proofs.Common.{ℕ, ◌<◌, ◌≤◌, ◌≡◌, ◌∙◌, List}
 use Rattle.limits.specs.Limits.{most_ratio}
-use Rattle.market.specs.MeasureLaws.{block_small}
+use Rattle.market.proofs.MeasureLaws.{block_small}
 use Rattle.day.specs.declared.Counts.{Counts}
 use Rattle.book.specs.Of.{OfFiles}
 use Rattle.book.specs.Ranges.{placed, ranged}

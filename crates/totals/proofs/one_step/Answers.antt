@@ -1,8 +1,8 @@
 -- `totals::one_step` meets its contract. Assumes nothing.
 use Rattle.std.proofs.Common.{ℕ, ◌<◌, ◌∙◌, List}
-use Rattle.whole.specs.Size.{same}
+use Rattle.whole.proofs.Size.{same}
 use Rattle.market.specs.Measures.{step_measured}
-use Rattle.market.specs.MeasureLaws.{step_small}
+use Rattle.market.proofs.MeasureLaws.{step_small}
 use Rattle.day.specs.declared.Counts.{Counts}
 use Rattle.book.specs.Of.{OfFiles}
 use Rattle.book.specs.Ranges.{placed, ranged}

@@ -1,7 +1,7 @@
 -- `totals::over_periods` meets its contract. Assumes nothing.
 use Rattle.std.proofs.Common.{◌-◌, arith}
 use Rattle.market.specs.Measures.{block_measured}
-use Rattle.market.specs.MeasureLaws.{block_part_size}
+use Rattle.market.proofs.MeasureLaws.{block_part_size}
 use Rattle.book.specs.Ranges.{placed, ranged}
 use Rattle.totals.specs.Sums.{one_period}
 use Rattle.totals.specs.Loops.{none_summed, more_fits, more_summed, all_summed}

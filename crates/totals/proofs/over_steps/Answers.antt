@@ -1,6 +1,6 @@
 -- `totals::over_steps` meets its contract. Assumes nothing.
 use Rattle.std.proofs.Common.{◌-◌, arith}
-use Rattle.market.specs.MeasureLaws.{steps_size}
+use Rattle.market.proofs.MeasureLaws.{steps_size}
 use Rattle.book.specs.Ranges.{placed, ranged}
 use Rattle.totals.specs.Sums.{one_step}
 use Rattle.totals.specs.Loops.{none_summed, more_fits, more_summed}

@@ -1,6 +1,6 @@
 -- `totals::rent` meets its contract. Assumes nothing.
 use Rattle.std.proofs.Common.{◌-◌, arith}
-use Rattle.market.specs.MeasureLaws.{rents_size}
+use Rattle.market.proofs.MeasureLaws.{rents_size}
 use Rattle.book.specs.Ranges.{placed, ranged}
 use Rattle.totals.specs.Sums.{line_rent}
 use Rattle.totals.specs.Loops.{none_summed, more_fits, more_summed}

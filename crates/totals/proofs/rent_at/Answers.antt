@@ -1,6 +1,6 @@
 -- `totals::rent_at` meets its contract. Assumes nothing.
 use Rattle.std.proofs.Common.{◌≡◌, ◌∙◌, w64, to_z, of_z}
-use Rattle.whole.specs.Size.{same}
+use Rattle.whole.proofs.Size.{same}
 use Rattle.book.specs.Book.{line_of, flow_of, prices_of}
 use Rattle.book.specs.Ranges.{placed, ranged}
 use Rattle.totals.proofs.rent_at.Goals as goal

@@ -1,6 +1,6 @@
 -- `totals::shortfall` meets its contract. Assumes nothing.
 use Rattle.std.proofs.Common.{◌-◌, arith}
-use Rattle.market.specs.MeasureLaws.{missed_size}
+use Rattle.market.proofs.MeasureLaws.{missed_size}
 use Rattle.book.specs.Ranges.{placed, ranged}
 use Rattle.totals.specs.Sums.{missed}
 use Rattle.totals.specs.Loops.{none_summed, more_fits, more_summed}

@@ -1,8 +1,8 @@
 -- `totals::totals_of` meets its contract. Assumes nothing.
 use Rattle.std.proofs.Common.{◌≡◌, ◌∙◌, ℤ}
-use Rattle.whole.specs.Size.{same}
+use Rattle.whole.proofs.Size.{same}
 use Rattle.market.specs.Market.{Day, Choice, Prices, order_value, buyer_surplus, seller_surplus, rent, traded_volume, shortfall, totals}
-use Rattle.market.specs.MeasureLaws.{value_is, buyers_is, sellers_is, traded_is}
+use Rattle.market.proofs.MeasureLaws.{value_is, buyers_is, sellers_is, traded_is}
 use Rattle.book.specs.Book.{day_of, prices_of, choice_of}
 use Rattle.totals.proofs.totals_of.Goals as goal
 

@@ -1,7 +1,7 @@
 -- `totals::whole_surplus` meets its contract. Assumes nothing.
 use Rattle.std.proofs.Common.{◌∙◌}
-use Rattle.whole.specs.Size.{same}
-use Rattle.market.specs.MeasureLaws.{whole_is}
+use Rattle.whole.proofs.Size.{same}
+use Rattle.market.proofs.MeasureLaws.{whole_is}
 use Rattle.totals.proofs.whole_surplus.Goals as goal
 
 pub returns : goal.returns

@@ -3,8 +3,9 @@
 use Rattle.std.specs.Prelude.{ℕ, ◌+◌, ◌*◌, ◌<◌, ◌≤◌, ◌≡◌, refl, ◌↔◌, List, [], ◌∷◌, ◌++◌, ℤ, get_or, length, drop}
 use Rattle.std.proofs.Common.{le_refl, arith, sym, ap, subst, ◌∙◌, SFits, leb-true, le-leb}
 use Rattle.std.specs.Int.{w32, w64}
-use Rattle.whole.specs.Size.{fits_i64}
-use Rattle.stages.specs.Stage.{Means, means, clean-++, first_fault, answer_fault, answer_good, answer_bad}
+use Rattle.whole.proofs.Size.{fits_i64}
+use Rattle.stages.specs.Stage.{Means, first_fault}
+use Rattle.stages.proofs.StageLaws.{means, clean-++, answer_fault, answer_good, answer_bad}
 use Rattle.stages.specs.declared.Place.{Place}
 use Rattle.stages.specs.declared.Fault.{Fault}
 use Rattle.stages.specs.declared.Fault.TheVariants.{Broken, Clean}
@@ -13,10 +14,10 @@ use Rattle.wire.specs.RoundTrip.{put_length}
 use Rattle.market.specs.Market.{Day, Prices, Choice, accepted, net_position, order_value, buyer_surplus, seller_surplus, rent, traded_volume}
 use Rattle.market.specs.Market.{shortfall, totals}
 use Rattle.market.specs.Rules.{Lawful, rule_stages}
-use Rattle.market.specs.RuleLaws.{lawful_is}
+use Rattle.market.proofs.RuleLaws.{lawful_is}
 use Rattle.market.specs.Measures.{priced}
-use Rattle.market.specs.MeasureLaws.{value_is, buyers_is, sellers_is, traded_is}
-use Rattle.market.specs.MeasureLaws.{rents_size, missed_size}
+use Rattle.market.proofs.MeasureLaws.{value_is, buyers_is, sellers_is, traded_is}
+use Rattle.market.proofs.MeasureLaws.{rents_size, missed_size}
 use Rattle.market.specs.declared.Totals.{Totals}
 use Rattle.market.specs.declared.Measure.{Measure}
 use Rattle.market.specs.declared.Measure.TheVariants.{Value, Buyers, Sellers, Traded}

@@ -12,8 +12,8 @@ use Rattle.market.specs.Market.{Choice, order_value, totals}
 use Rattle.market.specs.Rules.{Lawful, number}
 use Rattle.market.specs.Other.{Allowed, SameBlocks, lawful_allowed}
 use Rattle.market.specs.Range.{Placed}
-use Rattle.market.specs.Welfare as welfare
-use Rattle.market.specs.RuleLaws.{rent_nonneg, shortfall_nonneg}
+use Rattle.market.proofs.Welfare as welfare
+use Rattle.market.proofs.RuleLaws.{rent_nonneg, shortfall_nonneg}
 use Rattle.market.specs.declared.Rule.{Rule}
 use Rattle.market.specs.declared.Totals.{Totals}
 use Rattle.day.specs.Day.{counts}
@@ -27,10 +27,10 @@ use Rattle.verdict.specs.Verdict.{stages, leaves, Checked, number_of, place_of, 
 use Rattle.verdict.specs.declared.Outcome.{Outcome}
 use Rattle.verdict.specs.declared.Outcome.TheVariants.{Accepted, Refused}
 use Rattle.demands.specs.Sentences.{Passes, FirstBreach, TooShort, Stated}
-use Rattle.demands.specs.Refusals as refusals
-use Rattle.demands.specs.Laws.{passes_exactly, refused_is_broken, behind_stays, length_stays}
-use Rattle.demands.specs.Laws.{six_stated, value_stated, buyers_stated, sellers_stated, rent_stated, traded_stated, shortfall_stated}
-use Rattle.demands.specs.Laws.{count_stated, net_stated}
+use Rattle.demands.proofs.Refusals as refusals
+use Rattle.demands.proofs.Laws.{passes_exactly, refused_is_broken, behind_stays, length_stays}
+use Rattle.demands.proofs.Laws.{six_stated, value_stated, buyers_stated, sellers_stated, rent_stated, traded_stated, shortfall_stated}
+use Rattle.demands.proofs.Laws.{count_stated, net_stated}
 
 -- what is shown of the verdict is shown of the outcome
 said_of : {x y z : Outcome} {A : Type 0} → x ≡ y → (y ≡ z) ↔ A → (x ≡ z) ↔ A

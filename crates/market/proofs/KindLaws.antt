@@ -8,7 +8,7 @@ use Rattle.std.specs.Prelude.{◌≡◌, ◌⊎◌, negsuc, neg_ℤ, ◌+ℤ◌,
 use Rattle.std.proofs.Math.IntN.{ℤ, pos, zero-*ℤ, *ℤ-zero, *ℤ_comm}
 use Rattle.whole.specs.Whole.{◌≼◌, ◌≺◌, sum, at, above_zero}
 use Rattle.whole.specs.Ring.{given, linear, ring, ≼_refl, ≼_of_<, ≼_or_<, pos-≼, *_swap, *_mono, *_anti, *_cancel, above_zero_above, above_zero_nonneg}
-use Rattle.whole.specs.Sums.{sums, sum_scale, sum_cong, sum_mono, sum_zero, sum_times_at}
+use Rattle.whole.proofs.Sums.{sums, sum_scale, sum_cong, sum_mono, sum_zero, sum_times_at}
 use Rattle.limits.specs.Limits.{most_ratio}
 use Rattle.market.specs.Market.{Day, Choice, Prices, block_volume, step_trade, block_trade, of_sells, of_buys, volume_at, margin}
 use Rattle.market.specs.Market.{surplus_of, whole_surplus, rent_at, left_surplus, missed}

@@ -4,13 +4,14 @@ use Rattle.std.specs.Prelude.{ℕ, ◌<◌, ◌≤◌, ◌≡◌, refl, ◌↔�
 use Rattle.std.proofs.Common.{arith, inl, inr, ⊎_elim, leb-false}
 use Rattle.std.proofs.Math.Logic.Iff
 use Rattle.std.proofs.lemmas.Bool.{lt-leb}
-use Rattle.stages.specs.Stage.{Stage, place, field_place, first_fault, answer, Breaks, BrokenAt, Holds, Means, means, broken_here}
+use Rattle.stages.specs.Stage.{Stage, place, field_place, first_fault, answer, Breaks, BrokenAt, Holds, Means}
+use Rattle.stages.proofs.StageLaws.{means, broken_here}
 use Rattle.stages.specs.declared.Place.{Place}
 use Rattle.stages.specs.declared.Fault.{Fault}
 use Rattle.stages.specs.declared.Fault.TheVariants.{Broken, Clean}
 use Rattle.market.specs.Market.{Day, Choice, Prices}
 use Rattle.market.specs.Rules.{number, order, rule_stage, rule_stages}
-use Rattle.market.specs.RuleLaws.{test_is, breach, rule_holds, listed, each_rule, lawful_is}
+use Rattle.market.proofs.RuleLaws.{test_is, breach, rule_holds, listed, each_rule, lawful_is}
 use Rattle.market.specs.declared.Rule.{Rule}
 use Rattle.market.specs.declared.Rule.TheVariants.{Price, Capacity, Quantity, Ratio, Whole, Balance, Step, Line, Block}
 use Rattle.day.specs.declared.Counts.{Counts}
@@ -23,7 +24,7 @@ use Rattle.clearing.specs.Fields.{ClearingField, clearing_field}
 use Rattle.verdict.specs.Verdict.{day_of, prices_of, choice_of, totals_of, statement_length_of, room_stage, stages, verdict, number_of}
 use Rattle.verdict.specs.declared.Outcome.TheVariants.{Accepted, Refused}
 use Rattle.demands.specs.Sentences.{turn, FirstBreach, TooShort}
-use Rattle.demands.specs.Laws.{refused_is_broken}
+use Rattle.demands.proofs.Laws.{refused_is_broken}
 use Rattle.stages.specs.Lists.{Each, Numbers, turn_in, InTurn, broken-++, each_in, each-++, each_so, numbered, placed, in_first, in_second, in_turn_broken}
 
 -- ==== the numbers of the files, and their places

@@ -5,8 +5,8 @@ use Rattle.std.proofs.Common.{le_trans, le_refl, mul-le-mul, arith, ◌∙◌}
 use Rattle.std.proofs.Math.Path.{refl, sym}
 use Rattle.whole.specs.Whole.{sum, at}
 use Rattle.whole.specs.Ring.{given, linear, ring}
-use Rattle.whole.specs.Sums.{sums, sum_cong}
-use Rattle.whole.specs.Size.{abs_neg, abs--, abs-*-≤, at_size, above_zero_size, sum_within}
+use Rattle.whole.proofs.Sums.{sums, sum_cong}
+use Rattle.whole.proofs.Size.{abs_neg, abs--, abs-*-≤, at_size, above_zero_size, sum_within}
 use Rattle.limits.specs.Limits.{most_periods, most_lines, most_steps, most_blocks, most_price, most_flow, most_volume, most_ratio}
 use Rattle.market.specs.Market.{Day, Choice, Prices, block_volume, step_trade, block_trade, of_sells, of_buys, volume_at, margin}
 use Rattle.market.specs.Market.{accepted, net_position, leaving, entering, order_value, traded_volume, surplus_of, whole_surplus, left_surplus, missed}

@@ -5,9 +5,10 @@ use Rattle.std.proofs.Math.Logic.Iff
 use Rattle.std.proofs.Math.IntN.{*ℤ-zero}
 use Rattle.whole.specs.Whole.{◌≼◌, ◌≺◌, sum}
 use Rattle.whole.specs.Ring.{given, linear, ring, le_z_true, le_z_false, ≼_refl, ≼_antisym, ≼_or_<, *_nonneg, *_cancel, above_zero_nonneg}
-use Rattle.whole.specs.Sums.{sum_nonneg}
-use Rattle.stages.specs.First.{both, apart, leb_is, eqb_is}
-use Rattle.stages.specs.Stage.{Stage, Holds, Means, means, first_fault}
+use Rattle.whole.proofs.Sums.{sum_nonneg}
+use Rattle.stages.proofs.FirstLaws.{both, apart, leb_is, eqb_is}
+use Rattle.stages.specs.Stage.{Stage, Holds, Means, first_fault}
+use Rattle.stages.proofs.StageLaws.{means}
 use Rattle.stages.specs.Lists.{Each, In, each_in}
 use Rattle.stages.specs.declared.Fault.TheVariants.{Clean}
 use Rattle.market.specs.Market.{Day, Choice, Prices, block_volume, surplus_of, whole_surplus, rent, shortfall}
@@ -15,7 +16,7 @@ use Rattle.limits.specs.Limits.{most_ratio}
 use Rattle.market.specs.Other.{Allowed}
 use Rattle.market.specs.Range.{Placed}
 use Rattle.market.specs.Margins.{pays_is, block_surplus}
-use Rattle.market.specs.Kinds.{in_thousandths}
+use Rattle.market.proofs.KindLaws.{in_thousandths}
 use Rattle.market.specs.Rules.{InTheMoney, OutOfTheMoney, Pays, WholeAt, Lawful, equal, step_ok, line_ok, ratio_ok, whole_ok, block_ok, test, Obeys}
 use Rattle.market.specs.Rules.{rows, columns, rule_stage, rule_stages}
 use Rattle.market.specs.declared.Side.{Side}

@@ -1,21 +1,21 @@
 -- The welfare theorem, by linear programming duality. All rows of a choice together are one item, which in a balanced choice brings nothing
 -- to any zone and period; so the rows' surpluses come to the order value, at any prices. In a lawful clearing each row's surplus is best,
--- but for a block's part of the shortfall; so the order value is best, but for the shortfall. Of the kinds of rows only what `Kinds` says is
+-- but for a block's part of the shortfall; so the order value is best, but for the shortfall. Of the kinds of rows only what `KindLaws` says is
 -- used: that each is priced and best. Assumes nothing.
 use Rattle.std.specs.Prelude.{ℕ, ◌<◌, ◌≡◌, ℤ, pos, ◌+ℤ◌}
 use Rattle.std.proofs.Common.{arith, sym, ◌∙◌}
 use Rattle.std.proofs.Math.Path.{refl}
 use Rattle.whole.specs.Whole.{◌≼◌, sum}
 use Rattle.whole.specs.Ring.{given, linear}
-use Rattle.whole.specs.Sums.{sums, sum-+, sum_cong, sum_mono, sum_zero}
+use Rattle.whole.proofs.Sums.{sums, sum-+, sum_cong, sum_mono, sum_zero}
 use Rattle.market.specs.Market.{Day, Choice, Prices, accepted, surplus_of, order_value, buyer_surplus, seller_surplus, rent, missed, shortfall}
 use Rattle.market.specs.Rules.{Balanced, Lawful}
 use Rattle.market.specs.Other.{Allowed, SameBlocks}
 use Rattle.market.specs.Range.{Placed}
 use Rattle.market.specs.Margins.{accepted_cong, accepted_plus, both_sides, block_surplus}
 use Rattle.market.specs.Items.{Item, ◌⊕◌, all, surplus, surplus-⊕, surplus_all, surplus_is_value}
-use Rattle.market.specs.Kinds.{trade_surplus, step_item, step_surplus, step_priced, step_best, line_item, line_rent, line_priced, line_best}
-use Rattle.market.specs.Kinds.{block_item, block_priced, block_best}
+use Rattle.market.proofs.KindLaws.{trade_surplus, step_item, step_surplus, step_priced, step_best, line_item, line_rent, line_priced, line_best}
+use Rattle.market.proofs.KindLaws.{block_item, block_priced, block_best}
 
 -- ---- all rows together are one item
 
