@@ -7,6 +7,3 @@ pub returns-in-At : goal.returns-in-At
 returns-in-At c =
     row_fails c.loop-i.invariant.1 (sym c.in-At.is ∙ c.row_field.ensures) c.loop-i-test.true
 
--- ?? add-i
--- add-i : tie.Need-overflow-add-i invariant-loop decreases-loop
--- add-i c = omega arith

@@ -13,10 +13,6 @@ returns-then-most-u32_at c =
     sym (counted a.first c.loop-k.k)
     ∙ ap (counted_on a.first) (stop c.loop-k.invariant.1 fails c.loop-k-test.true)
 
--- ?? add-k
--- add-k : tie.Need-overflow-add-k invariant-loop decreases-loop
--- add-k c = omega arith
-
 pub returns : goal.returns
 returns c =
     let first = c.args.first in

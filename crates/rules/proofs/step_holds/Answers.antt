@@ -1,5 +1,5 @@
 -- `rules::step_holds` meets its contract. Assumes nothing.
-use Rattle.std.proofs.Common.{w64}
+use Rattle.std.proofs.Common.{w64, rules}
 use Rattle.std.proofs.lemmas.Int.{to_z-of_z}
 use Rattle.book.specs.Ranges.{placed}
 use Rattle.whole.proofs.Size.{same}
@@ -19,6 +19,6 @@ returns c =
       c.volume_of.ensures,
       same c.price_of.result c.price_of.type_inv,
       c.price_of.ensures,
-      to_z-of_z w64 c.step_of-step.result.limit (record { sfits = c.struct_told-1.given.1.1.1.0.1 }),
+      to_z-of_z w64 c.step_of-step.result.limit (search rules),
       c.step_of-step.ensures,
     )
