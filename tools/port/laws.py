@@ -4,8 +4,8 @@
 usage: tools/port/laws.py [FOLDER]
 
 It runs at the top of the repository (or over FOLDER). A law keeps its statement, its comment and its proof, word for word. A file that
-holds only laws, with what only they name, moves whole; in a file that has definitions too these stay, and the laws go to a file of their
-own. Lib.antt, the imports of each .antt and .rt file, the `file:` lines of must-fail edits whose text moved, and the places that
+holds only laws, with what only they name, moves whole; in a file that has definitions too these stay, with the laws that rest on none of
+those that an edit changes, and the others go to a file of their own. Lib.antt, the imports of each .antt and .rt file, the `file:` lines of must-fail edits whose text moved, and the places that
 docs/READING.md names follow. It may run again, also where some files have moved and others still import from the old place: what is
 done already is left alone.
 """
@@ -47,16 +47,19 @@ SPLIT = [
         "stages",
         "First",
         "FirstLaws",
-        "-- The laws by which a loop looks for the first row at which a test fails; a test's answer, as a fact. Assumes nothing.",
-        stay=("every", "or_else", "bad_at", "first_bad", "Says", "Passed", "found_nothing"),
-        specs_head="-- The first row at which a test fails. Assumes nothing.",
+        "-- The laws by which a loop looks for the first row at which a test fails, and that the answer says what it means. Assumes nothing.",
+        stay=(
+            *("every", "or_else", "bad_at", "first_bad", "Says", "Passed", "found_nothing"),
+            *("apart", "both", "leb_is", "leb_false_is", "ltb_is", "eqb_is", "not_is", "every_is"),
+        ),
+        specs_head="-- The first row at which a test fails, and a test's answer as a fact. Assumes nothing.",
         headings=[
             (
                 "-- ---- the laws a loop goes by: nothing passed yet; the test holds at i; it fails at i; the end",
                 "-- ---- what a loop knows on its way",
             )
         ],
-        laws_lib="-- The laws by which a loop looks for the first row at which a test fails; a test's answer, as a fact.",
+        laws_lib="-- The laws by which a loop looks for the first row at which a test fails, and that the answer says what it means.",
     ),
     Split(
         "stages",
@@ -72,10 +75,11 @@ SPLIT = [
         "stages",
         "Stage",
         "StageLaws",
-        "-- What an answer means, proved once, for every list of stages: it is given just where what it means holds. Assumes nothing.",
+        "-- The first fault of a list of stages, and an answer made of it, is given just where what it means holds: proved here once, for every\n"
+        "-- list. Assumes nothing.",
         stay=(
             *("Stage", "place", "field_place", "once", "spot", "fault_at", "first_fault", "answer"),
-            *("Holds", "Breaks", "BrokenAt", "Means", "or_fault"),
+            *("Holds", "Breaks", "BrokenAt", "Means", "or_fault", "broken_here", "clean-++"),
         ),
         specs_head="-- A check is a list of stages. A stage is a number and a test at each cell of a table; its fault is the first cell, row by row, at which\n"
         "-- the test fails; the fault of a list is that of its first stage that has one. That an answer is given just where what it means holds is\n"
@@ -88,7 +92,7 @@ SPLIT = [
         "GoodLaws",
         "-- That a section's stages say what a section guarantees that reads without fault, and which field of a bad row is the first that fails.\n"
         "-- Assumes nothing.",
-        stay=("GoodSection", "Head", "FirstBad", "OwnNumber"),
+        stay=("GoodSection", "Head", "FirstBad", "OwnNumber", "head", "with_rows_lem", "ended_clean", "ended_other", "part_length"),
         laws_lib="-- That a section's stages say what a section guarantees that reads without fault, and which field of a bad row is the first that fails.",
     ),
     Split(

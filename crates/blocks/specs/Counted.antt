@@ -7,7 +7,7 @@ use Rattle.whole.specs.Whole as places
 use Rattle.whole.specs.Ring.{given, linear, le_z_true}
 use Rattle.whole.proofs.Sums.{sum_next}
 use Rattle.whole.proofs.Size.{abs_le, abs-+, abs--, at_size, above_zero_size, sum_within}
-use Rattle.stages.proofs.FirstLaws.{eqb_is}
+use Rattle.stages.specs.First.{eqb_is}
 use Rattle.cells.specs.Cells.{at_none, Gained, Within, buyers, sellers, traded, shortfall, nothing_gained, gained_then, gained_same, within_gained}
 use Rattle.limits.specs.Limits.{most_periods, most_blocks, most_price, most_volume, most_ratio}
 use Rattle.market.specs.Market.{block_volume, whole_surplus, missed}

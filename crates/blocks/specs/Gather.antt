@@ -9,7 +9,7 @@ use Rattle.whole.specs.Ring.{given, linear, le_z_true}
 use Rattle.whole.proofs.Sums.{sums, sum_next, sum_nonneg}
 use Rattle.whole.proofs.Size.{abs_neg, abs-+, at_size, sum_within, fits_i64}
 use Rattle.cells.specs.Cells.{at_none, Within, added, buyers, sellers, traded, nothing_gained, gained_at, gained_then, gained_same, within_gained}
-use Rattle.stages.proofs.FirstLaws.{both, leb_is, ltb_is, eqb_is}
+use Rattle.stages.specs.First.{both, leb_is, ltb_is, eqb_is}
 use Rattle.limits.specs.Limits.{most_periods, most_price, most_volume, most_ratio, is_price}
 use Rattle.market.specs.Market.{block_volume}
 use Rattle.market.specs.Rules.{whole_ok}

@@ -4,8 +4,7 @@ use Rattle.std.proofs.Common.{arith}
 use Rattle.stages.specs.Stage.{Means, field_place}
 use Rattle.stages.specs.declared.Fault.TheVariants.{Broken}
 use Rattle.sections.specs.Section.{ended}
-use Rattle.sections.specs.Good.{OwnNumber}
-use Rattle.sections.proofs.GoodLaws.{ended_other}
+use Rattle.sections.specs.Good.{OwnNumber, ended_other}
 use Rattle.rows.specs.declared.Kind.TheVariants.{Prices, Flows, Volumes, Ratios}
 use Rattle.reader.specs.Reader.{BadFrom}
 use Rattle.reader.specs.Chain.{then_bad}

@@ -3,7 +3,7 @@
 use Rattle.std.specs.Prelude.{ℕ, ◌*◌, ◌<◌, ◌≡◌, true, List, length}
 use Rattle.stages.specs.First.{every}
 use Rattle.sections.specs.Section.{count}
-use Rattle.sections.proofs.GoodLaws.{head, with_rows_lem}
+use Rattle.sections.specs.Good.{head, with_rows_lem}
 use Rattle.rows.specs.Rows.{field_count, field_ok}
 use Rattle.rows.specs.declared.Kind.{Kind}
 use Rattle.rows.specs.declared.Kind.TheVariants.{Prices, Flows, Volumes, Ratios}

@@ -1,12 +1,12 @@
 -- What two files that read without fault guarantee, and what the reader's two answers mean. Assumes nothing.
 use Rattle.std.specs.Prelude.{ℕ, ◌+◌, ◌*◌, ◌<◌, ◌≤◌, ◌≡◌, refl, ◌↔◌, List, length}
 use Rattle.std.proofs.Common.{le_antisymm, arith, sym, ap, ◌∙◌}
-use Rattle.stages.specs.Stage.{Means, first_fault}
-use Rattle.stages.proofs.StageLaws.{means, clean-++, answer_fault, answer_good, answer_bad}
+use Rattle.stages.specs.Stage.{Means, clean-++, first_fault}
+use Rattle.stages.proofs.StageLaws.{means, answer_fault, answer_good, answer_bad}
 use Rattle.stages.specs.declared.Place.{Place}
 use Rattle.stages.specs.declared.Fault.TheVariants.{Broken, Clean}
 use Rattle.sections.specs.Section.{count, after, ended}
-use Rattle.sections.proofs.GoodLaws.{ended_clean, part_length}
+use Rattle.sections.specs.Good.{ended_clean, part_length}
 use Rattle.wire.specs.Bytes.{u16_at, u32_at, i32_at}
 use Rattle.limits.specs.Limits.{most_volume, most_ratio}
 use Rattle.rows.specs.Rows.{row_size, row_start}

@@ -4,8 +4,7 @@ use Rattle.std.proofs.Common.{arith}
 use Rattle.stages.specs.Stage.{Means, field_place}
 use Rattle.stages.specs.declared.Fault.TheVariants.{Broken}
 use Rattle.sections.specs.Section.{ended}
-use Rattle.sections.specs.Good.{OwnNumber}
-use Rattle.sections.proofs.GoodLaws.{ended_other}
+use Rattle.sections.specs.Good.{OwnNumber, ended_other}
 use Rattle.limits.specs.Limits.{most_periods, most_zones, most_lines, most_steps, most_blocks}
 use Rattle.rows.specs.declared.Kind.TheVariants.{Periods, Zones, Lines, Steps, Blocks}
 use Rattle.reader.specs.Reader.{BadFrom}

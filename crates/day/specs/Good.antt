@@ -6,7 +6,7 @@ use Rattle.stages.proofs.StageLaws.{means, answer_fault, answer_good, answer_bad
 use Rattle.stages.specs.declared.Place.{Place}
 use Rattle.stages.specs.declared.Fault.TheVariants.{Broken, Clean}
 use Rattle.sections.specs.Section.{count, ended}
-use Rattle.sections.proofs.GoodLaws.{ended_clean, part_length}
+use Rattle.sections.specs.Good.{ended_clean, part_length}
 use Rattle.limits.specs.Limits.{most_periods, most_zones, most_lines, most_steps, most_blocks}
 use Rattle.rows.specs.Rows.{row_size, row_start}
 use Rattle.rows.specs.Sentences.{PeriodRow, ZoneRow, LineRow, StepRow, BlockRow, period_row, zone_row, line_row, step_row, block_row}

@@ -4,8 +4,8 @@ use Rattle.std.specs.Prelude.{ℕ, ◌+◌, ◌*◌, ◌<◌, ◌≤◌, ◌≡�
 use Rattle.std.proofs.Common.{le_refl, arith, sym, ap, subst, ◌∙◌, SFits, leb-true, le-leb}
 use Rattle.std.specs.Int.{w32, w64}
 use Rattle.whole.proofs.Size.{fits_i64}
-use Rattle.stages.specs.Stage.{Means, first_fault}
-use Rattle.stages.proofs.StageLaws.{means, clean-++, answer_fault, answer_good, answer_bad}
+use Rattle.stages.specs.Stage.{Means, clean-++, first_fault}
+use Rattle.stages.proofs.StageLaws.{means, answer_fault, answer_good, answer_bad}
 use Rattle.stages.specs.declared.Place.{Place}
 use Rattle.stages.specs.declared.Fault.{Fault}
 use Rattle.stages.specs.declared.Fault.TheVariants.{Broken, Clean}

@@ -4,8 +4,8 @@ use Rattle.std.specs.Prelude.{ℕ, ◌<◌, ◌≤◌, ◌≡◌, refl, ◌↔�
 use Rattle.std.proofs.Common.{arith, inl, inr, ⊎_elim, leb-false}
 use Rattle.std.proofs.Math.Logic.Iff
 use Rattle.std.proofs.lemmas.Bool.{lt-leb}
-use Rattle.stages.specs.Stage.{Stage, place, field_place, first_fault, answer, Breaks, BrokenAt, Holds, Means}
-use Rattle.stages.proofs.StageLaws.{means, broken_here}
+use Rattle.stages.specs.Stage.{Stage, place, field_place, first_fault, answer, Breaks, BrokenAt, Holds, Means, broken_here}
+use Rattle.stages.proofs.StageLaws.{means}
 use Rattle.stages.specs.declared.Place.{Place}
 use Rattle.stages.specs.declared.Fault.{Fault}
 use Rattle.stages.specs.declared.Fault.TheVariants.{Broken, Clean}

@@ -6,8 +6,8 @@ use Rattle.stages.specs.declared.Fault.TheVariants.{Clean}
 use Rattle.limits.specs.Limits.{most_periods, most_zones, most_lines, most_steps, most_blocks}
 use Rattle.sections.specs.Section.{count, after}
 use Rattle.sections.specs.Answer.{Read, head_of, head_read, head_same, section_read, section_fault, fault_of}
-use Rattle.sections.specs.Good.{Head}
-use Rattle.sections.proofs.GoodLaws.{head, section_clean}
+use Rattle.sections.specs.Good.{Head, head}
+use Rattle.sections.proofs.GoodLaws.{section_clean}
 use Rattle.sections.specs.declared.Section.{Section}
 use Rattle.sections.specs.declared.Section.TheVariants.{Rows, CutOff, Beyond, BadRow}
 use Rattle.rows.specs.Rows.{row_size, field_count, field_ok}

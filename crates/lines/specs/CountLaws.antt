@@ -10,7 +10,7 @@ use Rattle.whole.specs.Whole.{◌≼◌, ◌≺◌, sum, at}
 use Rattle.whole.specs.Ring.{le_z_true, le_z_false, ≼_refl, ≼_trans, ≼_of_<, neg_anti, pos-≼}
 use Rattle.whole.proofs.Sums.{at_same, at_other, sum_next, sum_zero, sum_only}
 use Rattle.whole.proofs.Size.{abs_le, abs_neg, abs-+, abs--, abs-*-≤, at_size, sum_within, fits_i64}
-use Rattle.stages.proofs.FirstLaws.{both, apart, ltb_is, eqb_is, not_is}
+use Rattle.stages.specs.First.{both, apart, ltb_is, eqb_is, not_is}
 use Rattle.cells.specs.Cells.{added, Gained, Within, rent, nothing_gained, gained_at, gained_then, gained_same, within_gained, cell_below}
 use Rattle.limits.specs.Limits.{most_periods, most_lines, most_price, most_flow, most_volume}
 use Rattle.market.specs.Market.{rent_at}

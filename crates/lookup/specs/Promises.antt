@@ -2,7 +2,7 @@
 -- one answer. Assumes nothing.
 use Rattle.std.specs.Prelude.{ℕ, zero, suc, ◌+◌, ◌*◌, ◌≤◌, ◌≡◌, refl, ◌↔◌, Bool, true, false, List, [], ◌∷◌, leb, eqb, length, take, drop}
 use Rattle.std.proofs.Common.{add_comm, arith, sym, ap, ◌∙◌, drop-drop, leb-true, le-leb}
-use Rattle.stages.proofs.FirstLaws.{both}
+use Rattle.stages.specs.First.{both}
 use Rattle.stages.specs.Stage.{Means, first_fault, answer}
 use Rattle.stages.proofs.StageLaws.{means}
 use Rattle.stages.specs.declared.Place.{Place}

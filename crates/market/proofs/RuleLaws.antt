@@ -6,7 +6,7 @@ use Rattle.std.proofs.Math.IntN.{*ℤ-zero}
 use Rattle.whole.specs.Whole.{◌≼◌, ◌≺◌, sum}
 use Rattle.whole.specs.Ring.{given, linear, ring, le_z_true, le_z_false, ≼_refl, ≼_antisym, ≼_or_<, *_nonneg, *_cancel, above_zero_nonneg}
 use Rattle.whole.proofs.Sums.{sum_nonneg}
-use Rattle.stages.proofs.FirstLaws.{both, apart, leb_is, eqb_is}
+use Rattle.stages.specs.First.{both, apart, leb_is, eqb_is}
 use Rattle.stages.specs.Stage.{Stage, Holds, Means, first_fault}
 use Rattle.stages.proofs.StageLaws.{means}
 use Rattle.stages.specs.Lists.{Each, In, each_in}

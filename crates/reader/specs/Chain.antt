@@ -1,8 +1,7 @@
 -- A section's answer taken apart. Assumes nothing.
 use Rattle.std.specs.Prelude.{ℕ, ◌≡◌, ◌↔◌, List, ◌++◌}
 use Rattle.std.proofs.Common.{◌∙◌, inl, inr, ⊎_elim}
-use Rattle.stages.specs.Stage.{Stage, field_place, Means, first_fault, answer}
-use Rattle.stages.proofs.StageLaws.{clean-++}
+use Rattle.stages.specs.Stage.{Stage, field_place, Means, clean-++, first_fault, answer}
 use Rattle.stages.specs.Lists.{broken-++}
 use Rattle.stages.specs.declared.Place.{Place}
 use Rattle.stages.specs.declared.Fault.TheVariants.{Broken, Clean}

@@ -4,8 +4,8 @@ use Rattle.std.proofs.Common.{eq-or-lt_of_le, arith, ⊎_elim}
 use Rattle.wire.specs.Bytes.{u16_at, u32_at, i32_at}
 use Rattle.whole.specs.Whole.{◌≼◌}
 use Rattle.whole.specs.Ring.{le_z_true}
-use Rattle.stages.specs.First.{every, Says, first_bad, found_nothing}
-use Rattle.stages.proofs.FirstLaws.{says, every_first, every_is, both, apart, leb_is, leb_false_is, ltb_is, eqb_is, not_is}
+use Rattle.stages.specs.First.{every, Says, first_bad, found_nothing, every_is, both, apart, leb_is, leb_false_is, ltb_is, eqb_is, not_is}
+use Rattle.stages.proofs.FirstLaws.{says, every_first}
 use Rattle.stages.specs.declared.Found.{Found}
 use Rattle.stages.specs.declared.Found.TheVariants.{At, Nothing}
 use Rattle.limits.specs.Limits.{most_price, most_flow, most_volume, most_ratio, is_price, is_flow}

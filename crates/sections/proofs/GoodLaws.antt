@@ -1,22 +1,13 @@
 -- That a section's stages say what a section guarantees that reads without fault, and which field of a bad row is the first that fails.
 -- Assumes nothing.
-use Rattle.std.specs.Prelude.{ℕ, ◌+◌, ◌*◌, ◌<◌, ◌≤◌, ◌≡◌, refl, ◌↔◌, Bool, true, List, leb, length}
-use Rattle.std.proofs.Common.{arith, ap, inl, inr, ⊎_elim, length-drop, leb-true, le-leb}
-use Rattle.stages.specs.First.{every}
-use Rattle.stages.proofs.FirstLaws.{every_is, both}
-use Rattle.stages.specs.Stage.{Stage, once, place, field_place, Holds, BrokenAt, Means}
-use Rattle.stages.proofs.StageLaws.{broken_here}
+use Rattle.std.specs.Prelude.{ℕ, ◌+◌, ◌*◌, ◌≡◌, refl, ◌↔◌, Bool, List, leb, length}
+use Rattle.std.proofs.Common.{arith, ap, inl, inr, ⊎_elim, leb-true, le-leb}
+use Rattle.stages.specs.First.{every_is, both}
+use Rattle.stages.specs.Stage.{Stage, once, place, field_place, Holds, BrokenAt, Means, broken_here}
 use Rattle.stages.specs.declared.Place.{Place}
 use Rattle.stages.specs.declared.Fault.TheVariants.{Broken, Clean}
-use Rattle.sections.specs.Section.{Numbers, between, count, table, section, after, ended}
-use Rattle.sections.specs.Good.{GoodSection, Head, FirstBad, OwnNumber}
-
-module _ {least most size fields : ℕ} {ok : ℕ → ℕ → Bool} {part : List ℕ} where
-  pub head : GoodSection least most size fields ok part → Head least most size part
-  head g = record { counted = g.counted; at_least = g.at_least; at_most = g.at_most; room = g.room }
-
-  pub with_rows_lem : Head least most size part → ((i : ℕ) → i < count part → every fields (ok i) ≡ true) → GoodSection least most size fields ok part
-  with_rows_lem h r = record { counted = h.counted; at_least = h.at_least; at_most = h.at_most; room = h.room; rows = r }
+use Rattle.sections.specs.Section.{Numbers, between, count, table, section}
+use Rattle.sections.specs.Good.{GoodSection, Head, head, with_rows_lem, FirstBad, OwnNumber}
 
 -- that is what the section's stages say
 module _ (numbers : Numbers) (number least most size fields : ℕ) (ok : ℕ → ℕ → Bool) (part : List ℕ) where
@@ -103,18 +94,3 @@ module _ (numbers : Numbers) (number least most size fields : ℕ) (ok : ℕ →
           let h = of_head (record { counted = g.counted; at_least = g.at_least; at_most = g.at_most; room = g.room }) b in
           inr (h.0, inr (h.1.0, inr (h.1.1.0, inl h.1.1.1))),
     )
-
--- nothing comes after the last section
-pub ended_clean : (number : ℕ) (part : List ℕ) → Means (ended number part) Clean ↔ (length part ≡ 0)
-ended_clean number part = (
-  λ m. let l = leb-true (length part) 0 (m.0 0 0 (omega arith) (omega arith)) in omega arith,
-  λ e. (λ z i _ _. le-leb (length part) 0 (omega arith), tt),
-)
-
--- that is refused with its own number
-pub ended_other : (number : ℕ) (part : List ℕ) (k : ℕ) (p : Place) → ¬ (number ≡ k) → Means (ended number part) (Broken k p) ↔ ⊥
-ended_other number part k p other = (λ m. ⊎_elim (λ b. other b.number) (λ r. r.1) m, λ z. absurd z)
-
--- a section and what is left after it make up the part
-pub part_length : (size : ℕ) (part : List ℕ) → 2 + size * count part ≤ length part → length part ≡ 2 + size * count part + length (after size part)
-part_length size part h = simp length-drop (omega arith)

@@ -1,7 +1,7 @@
 -- What the reader of a section answers, and that its answer is the first fault of the section's stages. Assumes nothing.
 use Rattle.std.specs.Prelude.{ℕ, ◌+◌, ◌*◌, ◌≤◌, ◌≡◌, refl, Bool, true, false, List, [], ◌∷◌, ◌++◌, leb, length, drop}
 use Rattle.std.proofs.Common.{arith, ◌∙◌, ap, leb-true}
-use Rattle.stages.proofs.FirstLaws.{both}
+use Rattle.stages.specs.First.{both}
 use Rattle.stages.specs.Stage.{Stage, once, place, field_place, fault_at, first_fault, or_fault}
 use Rattle.stages.proofs.StageLaws.{fault-++}
 use Rattle.stages.specs.Table.{first_cell}

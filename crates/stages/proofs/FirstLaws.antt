@@ -1,37 +1,9 @@
--- The laws by which a loop looks for the first row at which a test fails; a test's answer, as a fact. Assumes nothing.
-use Rattle.std.specs.Prelude.{ℕ, zero, suc, ◌+◌, ◌<◌, ◌≤◌, ◌≡◌, refl, ◌⊎◌, ◌↔◌, Bool, true, false, ◌&&◌, not, leb, ltb, eqb}
-use Rattle.std.proofs.Common.{le_of_suc-le-suc, not-suc-le-zero, eq-or-lt_of_le, le_antisymm, add-one, arith, sym, inl, inr, ⊎_elim, leb-true, leb-false, le-leb, ltb-true, lt-ltb, eqb-true, eq-eqb}
-use Rattle.std.proofs.lemmas.Bool.{lt-leb}
+-- The laws by which a loop looks for the first row at which a test fails, and that the answer says what it means. Assumes nothing.
+use Rattle.std.specs.Prelude.{ℕ, zero, suc, ◌+◌, ◌<◌, ◌≤◌, ◌≡◌, refl, ◌⊎◌, Bool, true, false, ◌&&◌}
+use Rattle.std.proofs.Common.{le_of_suc-le-suc, not-suc-le-zero, eq-or-lt_of_le, le_antisymm, add-one, arith, sym, inl, inr, ⊎_elim}
 use Rattle.stages.specs.First.{every, or_else, bad_at, first_bad, Says, Passed, found_nothing}
 use Rattle.stages.specs.declared.Found.{Found}
 use Rattle.stages.specs.declared.Found.TheVariants.{At, Nothing}
-
--- ---- two answers of a test that differ
-
-pub apart : {A : Type 0} {b : Bool} → b ≡ true → b ≡ false → A
-apart e f = let z : ◌≡◌ {A = ℕ} 0 1 = cc in absurd (omega arith)
-
-pub both : (a b : Bool) → ((a && b) ≡ true) ↔ ((a ≡ true) × (b ≡ true))
-both true b = (λ e. (refl, e), λ e. e.1)
-both false b = (λ e. apart e refl, λ e. apart e.0 refl)
-
--- ---- a test's answer, as a fact
-
-pub leb_is : (a b : ℕ) → (leb a b ≡ true) ↔ (a ≤ b)
-leb_is a b = (leb-true a b, le-leb a b)
-
-pub leb_false_is : (a b : ℕ) → (leb a b ≡ false) ↔ (b < a)
-leb_false_is a b = (leb-false a b, lt-leb a b)
-
-pub ltb_is : (a b : ℕ) → (ltb a b ≡ true) ↔ (a < b)
-ltb_is a b = (ltb-true a b, lt-ltb a b)
-
-pub eqb_is : (a b : ℕ) → (eqb a b ≡ true) ↔ (a ≡ b)
-eqb_is a b = (eqb-true a b, eq-eqb a b)
-
-pub not_is : (b : Bool) → (not b ≡ true) ↔ ¬ (b ≡ true)
-not_is true = (λ e _. apart e refl, λ n. absurd (n refl))
-not_is false = (λ _ e. apart e refl, λ _. refl)
 
 -- ---- the laws a loop goes by: nothing passed yet; the test holds at i; it fails at i; the end
 
@@ -71,15 +43,6 @@ passed t zero h = none_yet t
 passed t (suc n) h = rw (← add-one) (more (passed t n (λ j l. h j (omega arith))) (h n (omega arith)))
 
 -- ---- every row
-
--- as a sentence
-pub every_is : (n : ℕ) (t : ℕ → Bool) → (every n t ≡ true) ↔ ((j : ℕ) → j < n → t j ≡ true)
-every_is zero t = (λ e j l. absurd (not-suc-le-zero l), λ h. refl)
-every_is (suc n) t = (
-  λ e j l. let b = (both (every n t) (t n)).0 e in
-      ⊎_elim (λ q. rw q b.1) (λ m. (every_is n t).0 b.0 j m) (eq-or-lt_of_le (le_of_suc-le-suc l)),
-  λ h. (both (every n t) (t n)).1 ((every_is n t).1 (λ j l. h j (omega arith)), h n (omega arith)),
-)
 
 pub every_first : (n : ℕ) (t : ℕ → Bool) → every n t ≡ found_nothing (first_bad n t)
 every_first zero t = refl

@@ -1,10 +1,11 @@
--- What an answer means, proved once, for every list of stages: it is given just where what it means holds. Assumes nothing.
+-- The first fault of a list of stages, and an answer made of it, is given just where what it means holds: proved here once, for every
+-- list. Assumes nothing.
 use Rattle.std.specs.Prelude.{◌≡◌, refl, ◌↔◌, Bool, List, [], ◌∷◌, ◌++◌, ℕ, zero, suc, ◌<◌}
 use Rattle.std.proofs.Common.{sym, subst, ap, ◌∙◌, inl, inr, ⊎_elim, le_of_suc-le-suc, not-suc-le-zero, eq-or-lt_of_le, arith}
-use Rattle.stages.specs.First.{first_bad, Says}
-use Rattle.stages.proofs.FirstLaws.{says, apart}
+use Rattle.stages.specs.First.{first_bad, Says, apart}
+use Rattle.stages.proofs.FirstLaws.{says}
 use Rattle.stages.specs.Table.{or_spot, in_row, first_cell}
-use Rattle.stages.specs.Stage.{Stage, spot, fault_at, first_fault, answer, Holds, Breaks, BrokenAt, Means, or_fault}
+use Rattle.stages.specs.Stage.{Stage, spot, fault_at, first_fault, answer, Holds, Breaks, Means, or_fault}
 use Rattle.stages.specs.declared.Found.{Found}
 use Rattle.stages.specs.declared.Found.TheVariants.{At, Nothing}
 use Rattle.stages.specs.declared.Spot.{Spot}
@@ -80,15 +81,6 @@ answer_is (s ∷ ss) (Broken k p) (inr m) = rw (spot_is s Nowhere m.0) (answer_i
 pub means : (ss : List Stage) (f : Fault) → (first_fault ss ≡ f) ↔ Means ss f
 means ss f = (λ e. subst (Means ss) e (holds_of ss), answer_is ss f)
 
--- ---- a place that says which cell it names
-
--- where a stage's places tell the row and the column of their cells, it is broken at the cell that its place tells
-pub broken_here : (s : Stage) (row col : Place → ℕ) → ((z i : ℕ) → row (s.named z i) ≡ z) → ((z i : ℕ) → col (s.named z i) ≡ i) →
-    {k : ℕ} {p : Place} → BrokenAt s k p → Breaks s (row p) (col p)
-broken_here s row col rows cols {p = p} b =
-    subst (Breaks s (row p)) (sym (cols b.row b.col) ∙ ap col b.named)
-    (subst (λ (z : ℕ). Breaks s z b.col) (sym (rows b.row b.col) ∙ ap row b.named) b.breaks)
-
 -- ---- one list after another
 
 pub fault-++ : (xs ys : List Stage) → first_fault (xs ++ ys) ≡ or_fault (first_fault xs) (first_fault ys)
@@ -98,14 +90,6 @@ fault-++ (s ∷ xs) ys = rw (fault-++ xs ys) (by (spot s))
     by : (p : Spot) → fault_at s p (or_fault (first_fault xs) (first_fault ys)) ≡ or_fault (fault_at s p (first_fault xs)) (first_fault ys)
     by (Cell z i) = refl
     by Nowhere = refl
-
--- all of two lists hold
-pub clean-++ : (xs ys : List Stage) → Means (xs ++ ys) Clean ↔ (Means xs Clean × Means ys Clean)
-clean-++ [] ys = (λ m. (tt, m), λ m. m.1)
-clean-++ (s ∷ xs) ys = (
-  λ m. let r = (clean-++ xs ys).0 m.1 in ((m.0, r.0), r.1),
-  λ m. (m.0.0, (clean-++ xs ys).1 (m.0.1, m.1)),
-)
 
 -- ---- an answer that is made of the first fault, by the definition that gives the number and the place of each answer
 

@@ -1,7 +1,8 @@
 -- A check is a list of stages. A stage is a number and a test at each cell of a table; its fault is the first cell, row by row, at which
 -- the test fails; the fault of a list is that of its first stage that has one. That an answer is given just where what it means holds is
 -- proved once, for every list, in proofs/StageLaws: a rule more is one more stage in the list. Assumes nothing.
-use Rattle.std.specs.Prelude.{◌≡◌, ◌⊎◌, Bool, true, false, List, [], ◌∷◌, ℕ, ◌<◌}
+use Rattle.std.specs.Prelude.{◌≡◌, ◌↔◌, ◌⊎◌, Bool, true, false, List, [], ◌∷◌, ◌++◌, ℕ, ◌<◌}
+use Rattle.std.proofs.Common.{sym, subst, ap, ◌∙◌}
 use Rattle.stages.specs.Table.{first_cell}
 use Rattle.stages.specs.declared.Spot.{Spot}
 use Rattle.stages.specs.declared.Spot.TheVariants.{Cell, Nowhere}
@@ -77,8 +78,25 @@ Means [] (Broken k p) = ⊥
 Means (s ∷ ss) Clean = Holds s × Means ss Clean
 Means (s ∷ ss) (Broken k p) = BrokenAt s k p ⊎ (Holds s × Means ss (Broken k p))
 
+-- ---- a place that says which cell it names
+
+-- where a stage's places tell the row and the column of their cells, it is broken at the cell that its place tells
+pub broken_here : (s : Stage) (row col : Place → ℕ) → ((z i : ℕ) → row (s.named z i) ≡ z) → ((z i : ℕ) → col (s.named z i) ≡ i) →
+    {k : ℕ} {p : Place} → BrokenAt s k p → Breaks s (row p) (col p)
+broken_here s row col rows cols {p = p} b =
+    subst (Breaks s (row p)) (sym (cols b.row b.col) ∙ ap col b.named)
+    (subst (λ (z : ℕ). Breaks s z b.col) (sym (rows b.row b.col) ∙ ap row b.named) b.breaks)
+
 -- ---- one list after another
 
 abbrev pub or_fault : Fault → Fault → Fault
 or_fault (Broken k p) f = Broken k p
 or_fault Clean f = f
+
+-- all of two lists hold
+pub clean-++ : (xs ys : List Stage) → Means (xs ++ ys) Clean ↔ (Means xs Clean × Means ys Clean)
+clean-++ [] ys = (λ m. (tt, m), λ m. m.1)
+clean-++ (s ∷ xs) ys = (
+  λ m. let r = (clean-++ xs ys).0 m.1 in ((m.0, r.0), r.1),
+  λ m. (m.0.0, (clean-++ xs ys).1 (m.0.1, m.1)),
+)

@@ -8,7 +8,7 @@ use Rattle.whole.specs.Whole.{◌≼◌, ◌≺◌, sum, at}
 use Rattle.whole.specs.Ring.{given, linear, ring, le_z_true, le_z_false}
 use Rattle.whole.proofs.Sums.{sum_next}
 use Rattle.whole.proofs.Size.{fits_i64, abs_le, abs-+, abs--, abs-*-≤, at_size, sum_within}
-use Rattle.stages.proofs.FirstLaws.{both, eqb_is, leb_is}
+use Rattle.stages.specs.First.{both, eqb_is, leb_is}
 use Rattle.cells.specs.Cells.{at_none, at_neg, gained_in_row}
 use Rattle.cells.specs.Cells.{Within, Gained, added, buyers, sellers, traded, nothing_gained, gained_at, gained_then, gained_same, within_gained}
 use Rattle.limits.specs.Limits.{most_price, most_volume}

@@ -6,7 +6,7 @@ use Rattle.std.proofs.Math.Decide.{ℕ_discrete}
 use Rattle.std.proofs.lemmas.List.{length-replicate, get_or-replicate}
 use Rattle.wire.specs.Bytes.{u32_at}
 use Rattle.limits.specs.Limits.{is_price, is_quantity}
-use Rattle.stages.proofs.FirstLaws.{both, leb_is}
+use Rattle.stages.specs.First.{both, leb_is}
 use Rattle.whole.specs.Ring.{le_z_true}
 use Rattle.rows.specs.Rows.{row_start, step_price, step_quantity}
 use Rattle.rows.specs.Sentences.{StepRow}

@@ -1,5 +1,5 @@
 -- `embed::put_totals` meets its contract: each total is read back from the bits that it is passed on as. Assumes nothing.
-use Rattle.std.proofs.Common.{refl, length-set, w64, rules}
+use Rattle.std.proofs.Common.{w64, rules}
 use Rattle.std.proofs.lemmas.Int.{to_z-of_z}
 use Rattle.embed.specs.Surface.{six}
 use Rattle.embed.proofs.Written.{written}

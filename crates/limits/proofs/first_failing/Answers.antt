@@ -1,8 +1,7 @@
-use Rattle.std.proofs.Common.{◌≡◌, ◌∙◌, arith}
-use Rattle.stages.proofs.FirstLaws.{more, stop, done}
-use Rattle.limits.specs.Fields.{only, only_at}
+use Rattle.std.proofs.Common.{◌∙◌, arith}
+use Rattle.stages.proofs.FirstLaws.{more, stop}
+use Rattle.limits.specs.Fields.{only_at}
 use Rattle.limits.proofs.first_failing.Goals as goal
-
 
 pub returns-then-not-tests-f : goal.returns-then-not-tests-f
 returns-then-not-tests-f c = stop c.loop-f.invariant.1 (only_at c.args.tests.now c.loop-f-test.true ∙ c.if-not-tests-f.true) c.loop-f-test.true

@@ -2,7 +2,7 @@
 use Rattle.std.proofs.Common.{sym, ap, ◌∙◌, neg_ℤ, w64}
 use Rattle.std.proofs.lemmas.Int.{to_z-of_z}
 use Rattle.whole.proofs.Size.{same}
-use Rattle.stages.proofs.FirstLaws.{both, leb_is}
+use Rattle.stages.specs.First.{both, leb_is}
 use Rattle.lines.proofs.flow_sure.Goals as goal
 
 pub returns : goal.returns

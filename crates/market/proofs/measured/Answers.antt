@@ -1,5 +1,5 @@
 -- `market::measured` meets its contract. Assumes nothing.
-use Rattle.std.proofs.Common.{◌≡◌, sym, ap, ℤ, w64, rules}
+use Rattle.std.proofs.Common.{◌≡◌, sym, ap, ℤ, w64}
 use Rattle.std.proofs.lemmas.Int.{to_z-of_z}
 use Rattle.whole.proofs.Size.{same}
 use Rattle.market.specs.Measures.{measured, by_side, sold, bought}

@@ -1,5 +1,5 @@
 -- `reader::read_rows` meets its contract. Assumes nothing.
-use Rattle.std.proofs.Common.{◌≡◌, sym, ap, ◌∙◌, Bool, ℕ}
+use Rattle.std.proofs.Common.{◌≡◌, sym, ap, ◌∙◌}
 use Rattle.sections.specs.Answer.{head_same, head_section, rows_by, section_of, with_rows}
 use Rattle.sections.specs.declared.Section.{Section}
 use Rattle.rows.specs.Rows.{row_size, field_count, field_ok}

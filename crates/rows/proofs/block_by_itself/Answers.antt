@@ -1,5 +1,5 @@
 -- `rows::block_by_itself` meets its contract: one of the first fields, or a quantity counted on behind them. Assumes nothing.
-use Rattle.std.proofs.Common.{◌≡◌, w64, rules}
+use Rattle.std.proofs.Common.{◌≡◌, w64}
 use Rattle.std.proofs.lemmas.Int.{to_z-of_z}
 use Rattle.stages.specs.First.{first_bad}
 use Rattle.limits.specs.Fields.{only}

@@ -1,5 +1,4 @@
 -- `rows::block_field` meets its contract: a field that fails by itself, or the last where there is no quantity. Assumes nothing.
-use Rattle.std.proofs.Common.{rules}
 use Rattle.rows.specs.Laws.{block_first}
 use Rattle.rows.proofs.block_field.Goals as goal
 

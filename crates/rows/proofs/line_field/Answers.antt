@@ -1,5 +1,5 @@
 -- `rows::line_field` meets its contract: an end, or a capacity counted on behind them. Assumes nothing.
-use Rattle.std.proofs.Common.{◌≡◌, rules}
+use Rattle.std.proofs.Common.{◌≡◌}
 use Rattle.stages.specs.First.{first_bad}
 use Rattle.limits.specs.Fields.{only}
 use Rattle.limits.specs.Rules.{ends_rule}

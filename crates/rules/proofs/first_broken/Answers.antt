@@ -1,6 +1,6 @@
 -- `rules::first_broken` meets its contract: in the rows passed, and in this row's columns passed, the rule holds. Assumes nothing.
 use Rattle.std.proofs.lemmas.Bool.{not-true}
-use Rattle.std.proofs.Common.{◌-◌, sym, ◌∙◌, rules}
+use Rattle.std.proofs.Common.{◌-◌, sym, ◌∙◌}
 use Rattle.stages.proofs.TableLaws.{stop_cell}
 use Rattle.rules.proofs.first_broken.Goals as goal
 

@@ -1,5 +1,5 @@
 -- `statement::put_head` meets its contract: each total is read back from the bits that it is passed on as. Assumes nothing.
-use Rattle.std.proofs.Common.{ℕ, arith, ◌≡◌, ap, ◌∙◌, List, ℤ, w64, SFits, of_z, to_z, rules}
+use Rattle.std.proofs.Common.{ℕ, ◌≡◌, ap, ◌∙◌, List, ℤ, w64, SFits, of_z, to_z, rules}
 use Rattle.std.proofs.lemmas.Int.{to_z-of_z}
 use Rattle.wire.specs.Bytes.{bits64, bytes16, bytes64, put}
 use Rattle.statement.specs.Laws.{head_stored}

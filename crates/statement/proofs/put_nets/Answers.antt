@@ -9,8 +9,8 @@ loop-k-init c = (omega arith, sym (nets_none _ _))
 
 pub loop-k-preserved : goal.loop-k-preserved
 loop-k-preserved c = (
-      omega arith,
-      c.put_net.ensures
-          ∙ rw (same (get_or c.args.nets.now c.loop-k.k (pos 0)) (search rules), c.loop-k.invariant.1)
-          (net_more c.args.room.now (λ i. get_or c.args.nets.now i (pos 0)) c.loop-k.k (omega arith)),
-    )
+  omega arith,
+  c.put_net.ensures
+      ∙ rw (same (get_or c.args.nets.now c.loop-k.k (pos 0)) (search rules), c.loop-k.invariant.1)
+      (net_more c.args.room.now (λ i. get_or c.args.nets.now i (pos 0)) c.loop-k.k (omega arith)),
+)

@@ -1,5 +1,5 @@
 -- `statement::put_statement` meets its contract. Assumes nothing.
-use Rattle.std.proofs.Common.{◌∙◌, pos, get_or, rules}
+use Rattle.std.proofs.Common.{◌∙◌, pos, get_or}
 use Rattle.statement.specs.Laws.{statement_stored}
 use Rattle.statement.specs.Of.{net_count}
 use Rattle.statement.proofs.put_statement.Goals as goal

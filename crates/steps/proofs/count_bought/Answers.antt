@@ -3,7 +3,7 @@ use Rattle.std.proofs.Common.{arith, ◌≡◌, sym, ◌∙◌, true, ◌&&◌, 
 use Rattle.std.proofs.lemmas.Int.{to_z-of_z}
 use Rattle.whole.proofs.Size.{same}
 use Rattle.whole.specs.Ring.{given, linear}
-use Rattle.stages.proofs.FirstLaws.{both, leb_is}
+use Rattle.stages.specs.First.{both, leb_is}
 use Rattle.limits.specs.Limits.{most_volume}
 use Rattle.cells.specs.Cells.{buyers}
 use Rattle.market.specs.Rules.{full_or_none}

@@ -1,7 +1,7 @@
 -- `steps::count_step` meets its contract. Assumes nothing.
 use Rattle.std.proofs.Common.{ℕ, ◌+◌, ◌*◌, ◌<◌, arith, ◌≡◌, sym, ap, subst, ◌∙◌, List, ℤ, pos, length, get_or, w64, to_z, of_z}
 use Rattle.whole.proofs.Size.{same}
-use Rattle.stages.proofs.FirstLaws.{eqb_is}
+use Rattle.stages.specs.First.{eqb_is}
 use Rattle.wire.specs.Bytes.{u32_at}
 use Rattle.rows.specs.Rows.{step_price, step_quantity}
 use Rattle.market.specs.declared.Step.{Step}

@@ -1,6 +1,6 @@
 -- `totals::gather_block` meets its contract. The loop's invariant: the table holds the sums over the rows before this block and over its
 -- periods passed. Assumes nothing.
-use Rattle.std.proofs.Common.{◌-◌, le_antisymm, arith, ◌≡◌, sym, ◌∙◌}
+use Rattle.std.proofs.Common.{◌-◌, le_antisymm, arith, ◌≡◌, ◌∙◌}
 use Rattle.book.specs.Book.{ratio_of}
 use Rattle.book.specs.Ranges.{placed, ranged}
 use Rattle.totals.specs.Sums.{block_trade}

@@ -1,5 +1,5 @@
 -- `totals::gather_flows` meets its contract. The loop's invariant: the table holds what the lines passed carry away. Assumes nothing.
-use Rattle.std.proofs.Common.{◌-◌, le_antisymm, arith, sym, ◌∙◌}
+use Rattle.std.proofs.Common.{◌-◌, le_antisymm, arith}
 use Rattle.totals.specs.Gather.{no_line_yet, flows_gathered}
 use Rattle.totals.proofs.gather_flows.Goals as goal
 

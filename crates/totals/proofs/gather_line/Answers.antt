@@ -1,6 +1,6 @@
 -- `totals::gather_line` meets its contract. The loop's invariant: the table holds what the lines before this one carry away, and what
 -- this one does in its periods passed. Assumes nothing.
-use Rattle.std.proofs.Common.{◌-◌, le_antisymm, arith, ◌≡◌, sym, ◌∙◌, w64, to_z, of_z}
+use Rattle.std.proofs.Common.{◌-◌, le_antisymm, arith, ◌≡◌, ◌∙◌, w64, to_z, of_z}
 use Rattle.whole.proofs.Size.{same}
 use Rattle.book.specs.Book.{flow_of}
 use Rattle.book.specs.Ranges.{ranged}

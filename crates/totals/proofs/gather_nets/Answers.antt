@@ -1,5 +1,4 @@
 -- `totals::gather_nets` meets its contract. Assumes nothing.
-use Rattle.std.proofs.Common.{rules}
 use Rattle.totals.specs.Gather.{nets_gathered}
 use Rattle.totals.proofs.gather_nets.Goals as goal
 

@@ -1,5 +1,5 @@
 -- `totals::gather_steps` meets its contract. The loop's invariant: the table holds the sums over the steps passed. Assumes nothing.
-use Rattle.std.proofs.Common.{◌-◌, arith, sym, ◌∙◌}
+use Rattle.std.proofs.Common.{◌-◌, arith}
 use Rattle.totals.specs.Gather.{cells_most, step_next, no_step_yet, next_below, next_fits, next_tabled}
 use Rattle.totals.proofs.gather_steps.Goals as goal
 
@@ -18,4 +18,3 @@ loop-row-preserved c =
     let o = c.requires.of_files in
     let t = c.loop-row.invariant.1 in
     (omega arith, rw (c.add_trade.ensures, c.step_trade.ensures) (next_tabled (cells_most o) (step_next o c.loop-row-test.true) t))
-

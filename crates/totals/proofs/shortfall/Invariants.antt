@@ -4,4 +4,3 @@ use Rattle.totals.proofs.shortfall.Given as goal
 
 abbrev pub invariant-loop-k : goal.invariant-loop-k
 invariant-loop-k l = Summed (missed l.counts l.day l.clearing) l.counts.blocks l.k l.all
-

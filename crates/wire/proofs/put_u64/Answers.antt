@@ -1,5 +1,5 @@
 -- Two puts side by side are one, and the low half has the low four bytes.
-use Rattle.std.proofs.Common.{rules, ◌/◌}
+use Rattle.std.proofs.Common.{◌/◌}
 use Rattle.wire.specs.Bytes.{bytes32}
 use Rattle.wire.specs.RoundTrip.{bytes32_mod, put_put}
 use Rattle.wire.proofs.put_u64.Goals as goal
