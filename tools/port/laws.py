@@ -169,8 +169,9 @@ def write(path, text):
 
 def declared(text, only_pub=False):
     """The names that a text declares at any depth but in a record's fields and in `where` blocks."""
-    names, skip = set(), None
+    names, skip, now = set(), None, ""
     for line in text.split("\n"):
+        before, now = now, line
         indent = len(line) - len(line.lstrip(" "))
         if skip is not None and (indent > skip or not line.strip()):
             continue
@@ -179,7 +180,8 @@ def declared(text, only_pub=False):
             skip = indent - 1
             continue
         found = DECLARED.match(line)
-        if found and not line.strip().startswith(("--", "module ", "use ", "unfolding ")):
+        is_first = not before.strip() or before.strip().startswith(("--", "infix", "use ")) or before.endswith(" where")
+        if found and is_first and not line.strip().startswith(("--", "module ", "use ", "unfolding ")):
             words = found[2].split()
             if " : " not in f"{line} " and "ruleset" not in words:
                 continue

@@ -27,7 +27,7 @@ LEMMAS = {"line_gives", "with_rows"}
 # Definitions of two crates that come to one name and meet in no file.
 APART = {"inRow", "stepRow"}
 # Fields of records, which meet a definition of their name in no file's scope.
-FIELDS = {"of-clearing", "block-quantity", "block-zone", "step-period", "step-zone", "block-rule", "step-rule", "ratio-ok"}
+FIELDS = {"of-clearing", "block-quantity", "block-zone", "step-period", "step-zone", "block-rule", "step-rule", "ratio-ok", "rent-at"}
 # Names that are declared with no type on their line.
 MORE = ("fault-bad", "fault-good", "none-gained", "r-fits")
 

@@ -122,7 +122,7 @@ module _ {day clearing before after : List ℕ} {t : Totals} (c : Checked day cl
         value_at = value_stated both_read rest;
         buyers_at = buyers_stated both_read rest;
         sellers_at = sellers_stated both_read rest;
-        rent_at_lem = rent_stated both_read rest;
+        rent_at = rent_stated both_read rest;
         traded_at = traded_stated both_read rest;
         shortfall_at = shortfall_stated both_read rest;
         count_at = count_stated both_read rest;

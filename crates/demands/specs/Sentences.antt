@@ -57,7 +57,7 @@ pub record Stated (day clearing before : List ℕ) (t : Totals) (after : List �
   pub value_at : i64_at after 2 ≡ order_value (day_of day) (choice_of day clearing)
   pub buyers_at : i64_at after 10 ≡ buyer_surplus (day_of day) (prices_of day clearing) (choice_of day clearing)
   pub sellers_at : i64_at after 18 ≡ seller_surplus (day_of day) (prices_of day clearing) (choice_of day clearing)
-  pub rent_at_lem : i64_at after 26 ≡ rent (day_of day) (prices_of day clearing) (choice_of day clearing)
+  pub rent_at : i64_at after 26 ≡ rent (day_of day) (prices_of day clearing) (choice_of day clearing)
   pub traded_at : i64_at after 34 ≡ traded_volume (day_of day) (choice_of day clearing)
   pub shortfall_at : i64_at after 42 ≡ shortfall (day_of day) (prices_of day clearing) (choice_of day clearing)
   pub count_at : u16_at after 50 ≡ (day_of day).zones * (day_of day).periods
