@@ -6,3 +6,5 @@ pub mod Welfare
 pub mod RuleLaws
 -- That the sums of what is counted are the totals and the net positions, and how large they are.
 pub mod MeasureLaws
+-- What `gain` answers, as those who call it pass it on.
+pub mod Gains
