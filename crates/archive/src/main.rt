@@ -7,44 +7,29 @@
 
 ghost use Rattle.std.specs.Prelude.{◌≤◌};
 
-use input::Reading;
 use std::io;
 use std::io::{Read, Write};
 
 // ---- a file of so many bytes
 
-fn is_held(reading: Reading, n: usize) -> bool {
-    match reading {
-        Reading::Held(k) => k == n,
-        Reading::Failed => false,
-    }
-}
-
-fn less(a: usize, b: usize) -> usize
-    ensures { result ≤ a }
-{
-    if b < a { a - b } else { 0 }
-}
-
-// Passes over some of the bytes that are left: how many are left then.
+// Passes over some of the bytes that are left. Gives how many came.
 fn skip_some<R: Read>(file: &mut R, left: usize) -> usize
     ensures { result ≤ left }
 {
     let mut passed = [0u8; 65536];
-    less(
-        left,
-        input::read_full(file, input::front_mut(&mut passed, left)),
-    )
+    input::read_full(file, input::front_mut(&mut passed, left))
 }
 
+// Passes over n bytes. Whether they were all there.
 fn skip<R: Read>(file: &mut R, n: usize) -> bool {
     let mut left = n;
-    while 0 < left {
-        let next = skip_some(file, left);
-        if next == left {
+    // No `for`: it goes on by as many as came.
+    while left > 0 {
+        let came = skip_some(file, left);
+        if came == 0 {
             return false;
         }
-        left = next;
+        left -= came;
     }
     true
 }
@@ -53,10 +38,7 @@ fn skip<R: Read>(file: &mut R, n: usize) -> bool {
 fn take<R: Read>(file: &mut R, buf: &mut [u8], n: usize) -> bool {
     let part = input::front_mut(buf, n);
     let kept = part.len();
-    if !is_held(input::read(file, part), kept) {
-        return false;
-    }
-    skip(file, less(n, kept))
+    input::read_full(file, part) == kept && skip(file, n - kept)
 }
 
 // ---- a pair, and all pairs
@@ -70,10 +52,7 @@ fn judge_pair<R: Read, W: Write>(
 ) -> io::Result<bool> {
     let mut day = [0u8; 65536];
     let mut clearing = [0u8; 65536];
-    if !take(file, &mut day, day_length) {
-        return Ok(false);
-    }
-    if !take(file, &mut clearing, clearing_length) {
+    if !take(file, &mut day, day_length) || !take(file, &mut clearing, clearing_length) {
         return Ok(false);
     }
     report::judged(
@@ -87,22 +66,20 @@ fn judge_pair<R: Read, W: Write>(
 // Judges the next pair. Whether to go on.
 fn judge_next<R: Read, W: Write>(out: &mut W, file: &mut R) -> io::Result<bool> {
     let mut head = [0u8; 8];
-    let reading = input::read(file, &mut head);
-    if is_held(reading, 0) {
-        return Ok(false);
-    }
-    if is_held(reading, 8) {
-        if judge_pair(
+    let whole = match input::read(file, &mut head) {
+        Ok(0) => return Ok(false),
+        Ok(8) => judge_pair(
             out,
             file,
             wire::u32_at(&head, 0) as usize,
             wire::u32_at(&head, 4) as usize,
-        )? {
-            return Ok(true);
-        }
+        )?,
+        _ => false,
+    };
+    if !whole {
+        print::text(out, b"cut short\n")?;
     }
-    print::text(out, b"cut short\n")?;
-    Ok(false)
+    Ok(whole)
 }
 
 // A loop has to end, and nothing says that the input does: it goes as far as a number of pairs that no archive has.
@@ -111,7 +88,7 @@ fn main(rt: HostRuntime) -> io::Result<()> {
     let mut file = rt.stdin();
     for _ in 0..u64::MAX {
         if !judge_next(&mut out, &mut file)? {
-            return Ok(());
+            break;
         }
     }
     Ok(())

@@ -2,14 +2,11 @@
 // than any file that reads without fault.
 #![tactic(auto)]
 
-use input::Reading;
 use std::fs::Files;
 use std::{fs, io};
 
-fn read_named<R: Files>(rt: &R, name: &str, buf: &mut [u8]) -> Reading {
-    let Ok(mut file) = fs::open(rt, name) else {
-        return Reading::Failed;
-    };
+fn read_named<R: Files>(rt: &R, name: &str, buf: &mut [u8]) -> io::Result<usize> {
+    let mut file = fs::open(rt, name)?;
     input::read(&mut file, buf)
 }
 
@@ -17,11 +14,11 @@ fn main(rt: HostRuntime) -> io::Result<()> {
     let mut out = io::writer(&rt);
     let mut day = [0u8; 65536];
     let mut clearing = [0u8; 65536];
-    let Reading::Held(day_length) = read_named(&rt, "day.bin", &mut day) else {
+    let Ok(day_length) = read_named(&rt, "day.bin", &mut day) else {
         print::text(&mut out, b"missing day\n")?;
         return Ok(());
     };
-    let Reading::Held(clearing_length) = read_named(&rt, "clearing.bin", &mut clearing) else {
+    let Ok(clearing_length) = read_named(&rt, "clearing.bin", &mut clearing) else {
         print::text(&mut out, b"missing clearing\n")?;
         return Ok(());
     };

@@ -2,7 +2,9 @@
 -- positions, and what is given to the five sums. Assumes nothing.
 use Rattle.std.specs.Prelude.{ℕ, ◌+◌, ◌*◌, ◌/◌, ◌≤◌, ◌<◌, ◌≡◌, true, List, ℤ, pos, neg_ℤ, nat_abs, ◌+ℤ◌, ◌-ℤ◌, ◌*ℤ◌, length}
 use Rattle.whole.specs.Whole.{◌≼◌, sum, at, above_zero}
-use Rattle.cells.specs.Cells.{Gained, buyers, sellers, traded, shortfall}
+use Rattle.cells.specs.Cells.{Gained}
+use Rattle.cells.specs.Gains.{nothing, SumsGained}
+use Rattle.cells.specs.declared.Sums.{Sums}
 use Rattle.limits.specs.Limits.{most_periods, most_price, most_volume, most_ratio}
 use Rattle.market.specs.Market.{block_volume, of_sells, of_buys}
 use Rattle.market.specs.Rules.{whole_ok}
@@ -62,19 +64,17 @@ pub record BroughtTo (zones periods zone : ℕ) (side : Side) (volume : ℕ → 
 -- ---- what is given to the five sums
 
 -- by what is accepted: its surplus and its volumes
-abbrev pub shared : Side → ℤ → ℤ → ℕ → ℤ
-shared side accepted volumes s =
-    at buyers (of_buys side accepted) s +ℤ at sellers (of_sells side accepted) s +ℤ at traded (of_buys side volumes) s
+abbrev pub shared : Side → ℤ → ℤ → Sums
+shared side accepted volumes = record nothing { buyers = of_buys side accepted; sellers = of_sells side accepted; traded = of_buys side volumes }
 
 -- the surplus of what is accepted, of a whole that does not lose
 abbrev pub part_of : ℤ → ℕ → ℤ
 part_of surplus ratio = pos (nat_abs surplus * ratio / most_ratio)
 
-pub record Accepted (zones periods zone : ℕ) (side : Side) (ratio : ℕ) (quantity : ℕ → ℕ) (surplus : ℤ) (nets₀ nets₁ sums₀ sums₁ : List ℤ) : Type 0 where
+pub record Accepted (zones periods zone : ℕ) (side : Side) (ratio : ℕ) (quantity : ℕ → ℕ) (surplus : ℤ) (nets₀ nets₁ : List ℤ) (sums₀ sums₁ : Sums) : Type 0 where
   pub gains : pos 0 ≼ surplus
   pub whole : (h : ℕ) → h < periods → whole_ok ratio (quantity h) ≡ true
   pub nets : Gained zones periods (brings zone side (λ h. block_volume ratio (quantity h)) periods) nets₀ nets₁
-  pub sums : Gained 1 5
-      (λ _ s. shared side (part_of surplus ratio) (sum periods (λ h. pos (block_volume ratio (quantity h)))) s
-      +ℤ at shortfall (above_zero (surplus -ℤ part_of surplus ratio)) s)
-      sums₀ sums₁
+  pub sums : SumsGained (record (shared side (part_of surplus ratio) (sum periods (λ h. pos (block_volume ratio (quantity h))))) {
+    shortfall = above_zero (surplus -ℤ part_of surplus ratio);
+  }) sums₀ sums₁

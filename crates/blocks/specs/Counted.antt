@@ -1,14 +1,15 @@
 -- A block that has passed its tests is sure, and what was gathered of it is counted; how large what it gives is. Assumes nothing.
-use Rattle.std.specs.Prelude.{ℕ, zero, suc, ◌+◌, ◌≤◌, ◌<◌, ◌≡◌, refl, Bool, true, false, ◌||◌, List, ℤ, pos, nat_abs, ◌+ℤ◌, ◌-ℤ◌, eqb}
-use Rattle.std.proofs.Common.{le_trans, le_refl, eq-or-lt_of_le, arith, ◌∙◌, ⊎_elim}
+use Rattle.std.specs.Prelude.{ℕ, zero, suc, ◌+◌, ◌≤◌, ◌<◌, ◌≡◌, refl, Bool, true, false, ◌||◌, List, ℤ, pos, nat_abs, ◌-ℤ◌, eqb}
+use Rattle.std.proofs.Common.{le_trans, le_refl, eq-or-lt_of_le, arith, ◌∙◌, ⊎_elim, subst}
 use Rattle.std.proofs.Math.Path.{sym}
-use Rattle.whole.specs.Whole.{sum, at, above_zero}
-use Rattle.whole.specs.Whole as places
+use Rattle.whole.specs.Whole.{sum, above_zero}
 use Rattle.whole.specs.Ring.{given, linear, le_z_true}
 use Rattle.whole.proofs.Sums.{sum_next}
-use Rattle.whole.proofs.Size.{abs_le, abs-+, abs--, at_size, above_zero_size, sum_within}
+use Rattle.whole.proofs.Size.{abs_le, abs--, above_zero_size, sum_within}
 use Rattle.stages.specs.First.{eqb_is}
-use Rattle.cells.specs.Cells.{at_none, Gained, Within, buyers, sellers, traded, shortfall, nothing_gained, gained_then, gained_same, within_gained}
+use Rattle.cells.specs.Gains.{nothing, SumsWithin, SumsGained, all_within, within_more, no_gain, gained_next, within_gained as within_gain}
+use Rattle.cells.specs.declared.Sums.{Sums}
+use Rattle.cells.specs.Cells.{Within, nothing_gained, gained_then, gained_same, within_gained}
 use Rattle.limits.specs.Limits.{most_periods, most_blocks, most_price, most_volume, most_ratio}
 use Rattle.market.specs.Market.{block_volume, whole_surplus, missed}
 use Rattle.market.specs.Rules.{test, ratio_ok, whole_ok, block_ok}
@@ -46,14 +47,15 @@ or_true : (a : Bool) {b : Bool} → b ≡ true → (a || b) ≡ true
 or_true true e = refl
 or_true false e = e
 
-none_shared : (side : Side) (x : ℤ) (i : ℕ) → shared side (pos 0) (pos 0) i +ℤ at shortfall (above_zero (x -ℤ pos 0)) i ≡ at shortfall (above_zero x) i
-none_shared side x i =
+none_shared : (side : Side) (x : ℤ) →
+    record (shared side (pos 0) (pos 0)) { shortfall = above_zero (x -ℤ pos 0) } ≡ record nothing { shortfall = above_zero x }
+none_shared side x =
     let e : x -ℤ pos 0 ≡ x = simp linear (omega arith) in
     rw e (by side)
   where
-    by : (side : Side) → shared side (pos 0) (pos 0) i +ℤ at shortfall (above_zero x) i ≡ at shortfall (above_zero x) i
-    by Sell = simp at_none (simp linear (omega arith))
-    by Buy = simp at_none (simp linear (omega arith))
+    by : (side : Side) → record (shared side (pos 0) (pos 0)) { shortfall = above_zero x } ≡ record nothing { shortfall = above_zero x }
+    by Sell = refl
+    by Buy = refl
 
 module _ (c : Counts) (day clearing : List ℕ) (k : ℕ) where
   abbrev start : ℕ
@@ -94,22 +96,14 @@ module _ (c : Counts) (day clearing : List ℕ) (k : ℕ) where
           small Surplus,
         ))
 
-    pub gives_small : (i : ℕ) → nat_abs (block_gives c day clearing k i) ≤ 250000000000000
-    gives_small i =
-        let b = block_measured (day_of c day) (prices_of c clearing) Buyers k ((choice_of c clearing).ratio k) in
-        let l = block_measured (day_of c day) (prices_of c clearing) Sellers k ((choice_of c clearing).ratio k) in
-        let t = block_measured (day_of c day) (prices_of c clearing) Traded k ((choice_of c clearing).ratio k) in
-        let m = missed (day_of c day) (prices_of c clearing) (choice_of c clearing) k in
-        omega (
-          arith,
-          abs-+ (at buyers b i +ℤ at sellers l i +ℤ at traded t i) (at shortfall m i),
-          abs-+ (at buyers b i +ℤ at sellers l i) (at traded t i),
-          abs-+ (at buyers b i) (at sellers l i),
-          le_trans (at_size buyers b i) (small Buyers),
-          le_trans (at_size sellers l i) (small Sellers),
-          le_trans (at_size traded t i) (small Traded),
-          le_trans (at_size shortfall m i) missed_small,
-        )
+    pub gives_small : SumsWithin 100000000000000 (block_gives c day clearing k)
+    gives_small = record {
+      buyers = le_trans (small Buyers) (omega arith);
+      sellers = le_trans (small Sellers) (omega arith);
+      rent = omega arith;
+      traded = le_trans (small Traded) (omega arith);
+      shortfall = missed_small;
+    }
 
   -- ---- its row, as it was read
 
@@ -169,13 +163,14 @@ module _ (c : Counts) (day clearing : List ℕ) (k : ℕ) where
     }
 
     -- what it gives, by the surplus and the volumes of what is accepted
-    gives_is : (accepted : ℤ) → block_measured (day_of c day) (prices_of c clearing) Surplus k (ratio_of clearing k) ≡ accepted → (i : ℕ) →
-        block_gives c day clearing k i
-        ≡ shared (block_at (blocks_part day) start).side accepted
-        (sum c.periods (λ h. pos (block_volume (ratio_of clearing k) (block_quantity (blocks_part day) start h)))) i
-        +ℤ at shortfall (above_zero (surplus -ℤ accepted)) i
+    gives_is : (accepted : ℤ) → block_measured (day_of c day) (prices_of c clearing) Surplus k (ratio_of clearing k) ≡ accepted →
+        block_gives c day clearing k
+        ≡ record (shared (block_at (blocks_part day) start).side accepted
+        (sum c.periods (λ h. pos (block_volume (ratio_of clearing k) (block_quantity (blocks_part day) start h))))) {
+          shortfall = above_zero (surplus -ℤ accepted);
+        }
     unfolding block_of quantity_of
-    gives_is accepted e i =
+    gives_is accepted e =
         let d = day_of c day in
         let p = prices_of c clearing in
         let r = ratio_of clearing k in
@@ -186,9 +181,9 @@ module _ (c : Counts) (day clearing : List ℕ) (k : ℕ) where
     volumes_none = none_volumes (day_of c day) (prices_of c clearing) (choice_of c clearing) k
 
     -- rejected, it only misses
-    pub rejected : {nets sums₀ sums₁ : List ℤ} → ratio_of clearing k ≡ 0 → Gained 1 5 (λ _. at shortfall (above_zero surplus)) sums₀ sums₁ →
+    pub rejected : {nets : List ℤ} {sums₀ sums₁ : Sums} → ratio_of clearing k ≡ 0 → SumsGained (record nothing { shortfall = above_zero surplus }) sums₀ sums₁ →
         BlockCounted c day clearing k nets nets sums₀ sums₁
-    rejected none g =
+    rejected {sums₀ = sums₀} {sums₁} none g =
         let d = day_of c day in
         let p = prices_of c clearing in
         let ch = choice_of c clearing in
@@ -196,24 +191,24 @@ module _ (c : Counts) (day clearing : List ℕ) (k : ℕ) where
           sure = sure (λ h _. rw none (rejected_never_refused 0 (block_quantity (blocks_part day) start h) surplus).1.0)
               (rw none (rejected_never_refused 0 0 surplus).1.1);
           nets = gained_same nothing_gained (λ z h _ _. sym (nothing_brought d p ch k none z h));
-          sums = gained_same g (λ z i _ _.
-              sym (gives_is (pos 0) (none_accepted d p ch k none) i ∙ rw (volumes_none none) (none_shared (block_at (blocks_part day) start).side surplus i)));
+          sums = subst (λ (x : Sums). SumsGained x sums₀ sums₁)
+              (sym (gives_is (pos 0) (none_accepted d p ch k none) ∙ rw (volumes_none none) (none_shared (block_at (blocks_part day) start).side surplus))) g;
         }
 
     -- accepted, at a ratio that makes its volumes whole
-    pub accepted : {nets₀ nets₁ sums₀ sums₁ : List ℤ} →
+    pub accepted : {nets₀ nets₁ : List ℤ} {sums₀ sums₁ : Sums} →
         Accepted c.zones c.periods (block_at (blocks_part day) start).zone (block_at (blocks_part day) start).side (ratio_of clearing k)
         (block_quantity (blocks_part day) start) surplus nets₀ nets₁ sums₀ sums₁ → BlockCounted c day clearing k nets₀ nets₁ sums₀ sums₁
     unfolding block_of quantity_of
-    accepted a =
+    accepted {sums₀ = sums₀} {sums₁} a =
         let d = day_of c day in
         let p = prices_of c clearing in
         let ch = choice_of c clearing in
         record {
           sure = sure a.whole (or_true (eqb (ratio_of clearing k) 0) ((le_z_true (pos 0) surplus).1 a.gains));
           nets = gained_same a.nets (λ z h _ _. sym (net_is d p k (ratio_of clearing k) z h));
-          sums = gained_same a.sums (λ z i _ _. sym (gives_is (part_of surplus (ratio_of clearing k))
-              (rw surplus_is at (accepted_is d p ch k (λ h l. (eqb_is _ 0).0 (a.whole h l)) (rw surplus_is a.gains))) i));
+          sums = subst (λ (x : Sums). SumsGained x sums₀ sums₁) (sym (gives_is (part_of surplus (ratio_of clearing k))
+              (rw surplus_is at (accepted_is d p ch k (λ h l. (eqb_is _ 0).0 (a.whole h l)) (rw surplus_is a.gains))))) a.sums;
         }
 
   -- ---- the same of what was read
@@ -232,14 +227,14 @@ module _ (c : Counts) (day clearing : List ℕ) (k : ℕ) where
           read_as r (λ _ _ b _. nat_abs (surplus_by b.side b.limit all worth) ≤ 50000000000000)
           (rw (surplus_is t) at (whole_small (tested_row t) prices few))
 
-      pub rejected_read : {nets sums₀ sums₁ : List ℤ} → ratio ≡ 0 →
-          Gained 1 5 (λ _. places.at shortfall (above_zero (surplus_by b.side b.limit all worth))) sums₀ sums₁ →
+      pub rejected_read : {nets : List ℤ} {sums₀ sums₁ : Sums} → ratio ≡ 0 →
+          SumsGained (record nothing { shortfall = above_zero (surplus_by b.side b.limit all worth) }) sums₀ sums₁ →
           BlockCounted c day clearing k nets nets sums₀ sums₁
       rejected_read {nets} {sums₀} {sums₁} =
-          read_as r (λ _ _ b ratio. ratio ≡ 0 → Gained 1 5 (λ _. places.at shortfall (above_zero (surplus_by b.side b.limit all worth))) sums₀ sums₁ →
+          read_as r (λ _ _ b ratio. ratio ≡ 0 → SumsGained (record nothing { shortfall = above_zero (surplus_by b.side b.limit all worth) }) sums₀ sums₁ →
           BlockCounted c day clearing k nets nets sums₀ sums₁) (rejected t)
 
-      pub accepted_read : {nets₀ nets₁ sums₀ sums₁ : List ℤ} →
+      pub accepted_read : {nets₀ nets₁ : List ℤ} {sums₀ sums₁ : Sums} →
           Accepted c.zones c.periods b.zone b.side ratio (block_quantity part at) (surplus_by b.side b.limit all worth)
           nets₀ nets₁ sums₀ sums₁ →
           BlockCounted c day clearing k nets₀ nets₁ sums₀ sums₁
@@ -251,16 +246,16 @@ module _ (c : Counts) (day clearing : List ℕ) (k : ℕ) where
 -- ---- block by block
 
 module _ {c : Counts} {day clearing : List ℕ} where
-  pub none_counted : {nets sums : List ℤ} → CountedTo c day clearing 0 nets nets sums sums
+  pub none_counted : {nets : List ℤ} {sums : Sums} → CountedTo c day clearing 0 nets nets sums sums
   unfolding sum
-  none_counted = record { sure = λ k l. absurd (omega arith); nets = nothing_gained; sums = nothing_gained }
+  none_counted = record { sure = λ k l. absurd (omega arith); nets = nothing_gained; sums = no_gain }
 
-  module _ {n : ℕ} {nets₀ nets₁ sums₀ sums₁ : List ℤ} (t : CountedTo c day clearing n nets₀ nets₁ sums₀ sums₁) where
-    pub more_counted : {nets₂ sums₂ : List ℤ} → BlockCounted c day clearing n nets₁ nets₂ sums₁ sums₂ → CountedTo c day clearing (n + 1) nets₀ nets₂ sums₀ sums₂
+  module _ {n : ℕ} {nets₀ nets₁ : List ℤ} {sums₀ sums₁ : Sums} (t : CountedTo c day clearing n nets₀ nets₁ sums₀ sums₁) where
+    pub more_counted : {nets₂ : List ℤ} {sums₂ : Sums} → BlockCounted c day clearing n nets₁ nets₂ sums₁ sums₂ → CountedTo c day clearing (n + 1) nets₀ nets₂ sums₀ sums₂
     more_counted b = record {
       sure = λ k l. ⊎_elim (λ (e : k ≡ n). rw e b.sure) (λ (m : k < n). t.sure k m) (eq-or-lt_of_le (omega arith));
       nets = gained_same (gained_then t.nets b.nets) (λ z h _ _. sym (sum_next n (λ k. block_brings c day clearing k z h)));
-      sums = gained_same (gained_then t.sums b.sums) (λ _ i _ _. sym (sum_next n (λ k. block_gives c day clearing k i)));
+      sums = gained_next n (block_gives c day clearing) t.sums b.sums;
     }
 
     module _ (many : n ≤ most_blocks) (prices : PricesSmall c clearing) (few : c.periods ≤ most_periods) where
@@ -273,11 +268,9 @@ module _ {c : Counts} {day clearing : List ℕ} where
                 (λ k j. brings_small c day clearing k (t.sure k j) prices few y i)) z h l m,
           )
 
-      pub sums_within : Within 1 5 1000000000000000000 sums₀ → Within 1 5 2000000000000000000 sums₁
-      sums_within w z h l m =
-          omega (
-            arith,
-            within_gained t.sums {bound = 1000000000000000000} {more = 25000000000000000} w
-                (λ _ i _ _. sum_within n most_blocks (λ k. block_gives c day clearing k i) 250000000000000 many
-                (λ k j. gives_small c day clearing k (t.sure k j) prices few i)) z h l m,
-          )
+      pub sums_within : SumsWithin 1000000000000000000 sums₀ → SumsWithin 2000000000000000000 sums₁
+      sums_within w =
+          within_more
+          (within_gain t.sums w (all_within n most_blocks 100000000000000 (block_gives c day clearing) many
+          (λ k j. gives_small c day clearing k (t.sure k j) prices few)))
+          (omega arith)

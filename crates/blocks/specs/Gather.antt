@@ -1,6 +1,6 @@
 -- The laws by which the two walks over a block's periods gather, and by which the sums grow. Assumes nothing.
 use Rattle.std.specs.Prelude.{ℕ, zero, suc, ◌+◌, ◌*◌, ◌/◌, ◌%◌, ◌≤◌, ◌<◌, ◌≡◌, refl, true, ◌&&◌, List, leb, ltb, ℤ, pos, nat_abs, ◌+ℤ◌, ◌-ℤ◌, ◌*ℤ◌, length, get_or}
-use Rattle.std.proofs.Common.{le_trans, eq-or-lt_of_le, zero-add, mul-le-mul, arith, sym, ⊎_elim, SFits}
+use Rattle.std.proofs.Common.{le_trans, eq-or-lt_of_le, mul-le-mul, arith, sym, ⊎_elim, SFits}
 use Rattle.std.specs.Int.Bits.{bit_or, or_add_and}
 use Rattle.std.proofs.lemmas.Nat.{and_le_l, and_le_r}
 use Rattle.std.specs.Int.{w64}
@@ -8,7 +8,8 @@ use Rattle.whole.specs.Whole.{◌≼◌, sum, at}
 use Rattle.whole.specs.Ring.{given, linear, le_z_true}
 use Rattle.whole.proofs.Sums.{sums, sum_next, sum_nonneg}
 use Rattle.whole.proofs.Size.{abs_neg, abs-+, at_size, sum_within, fits_i64}
-use Rattle.cells.specs.Cells.{at_none, Within, added, buyers, sellers, traded, nothing_gained, gained_at, gained_then, gained_same, within_gained}
+use Rattle.cells.specs.Gains.{SumsWithin}
+use Rattle.cells.specs.Cells.{Within, added, nothing_gained, gained_at, gained_then, gained_same, within_gained}
 use Rattle.stages.specs.First.{both, leb_is, ltb_is, eqb_is}
 use Rattle.limits.specs.Limits.{most_periods, most_price, most_volume, most_ratio, is_price}
 use Rattle.market.specs.Market.{block_volume}
@@ -116,26 +117,22 @@ module _ {zones periods zone : ℕ} {side : Side} {volume : ℕ → ℕ} where
 
 -- ---- the sums
 
-module _ (sums : List ℤ) (s : ℕ) (l : s < 5) where
-  pub sum_fits : (x : ℤ) {bound more : ℕ} → Within 1 5 bound sums → nat_abs x ≤ more → bound + more < 9223372036854775808 →
-      SFits w64 (get_or sums s (pos 0) +ℤ x)
-  sum_fits x {bound} {more} w m f =
-      let held : nat_abs (get_or sums s (pos 0)) ≤ bound = rw zero-add at (w 0 s (omega arith) l) in
-      fits_i64 _ (omega (arith, abs-+ (get_or sums s (pos 0)) x))
-
--- what a sell gives, and what a buy does
-pub sold_shared : (accepted volumes : ℤ) (s : ℕ) → at sellers accepted s ≡ shared Sell accepted volumes s
-sold_shared accepted volumes s = simp at_none (simp linear (omega arith))
-
-pub bought_shared : (accepted volumes : ℤ) (s : ℕ) → at buyers accepted s +ℤ at traded volumes s ≡ shared Buy accepted volumes s
-bought_shared accepted volumes s = simp at_none (simp linear (omega arith))
-
-pub shared_size : (side : Side) (accepted volumes : ℤ) (s : ℕ) → nat_abs accepted ≤ 50000000000000 → nat_abs volumes ≤ 1000000000000 →
-    nat_abs (shared side accepted volumes s) ≤ 100000000000000
-shared_size Sell accepted volumes s a v = rw (← sold_shared accepted volumes s) (omega (arith, at_size sellers accepted s))
-shared_size Buy accepted volumes s a v =
-    rw (← bought_shared accepted volumes s)
-    (omega (arith, abs-+ (at buyers accepted s) (at traded volumes s), at_size buyers accepted s, at_size traded volumes s))
+pub shared_size : (side : Side) (accepted volumes : ℤ) → nat_abs accepted ≤ 50000000000000 → nat_abs volumes ≤ 1000000000000 →
+    SumsWithin 100000000000000 (shared side accepted volumes)
+shared_size Sell accepted volumes a v = record {
+  buyers = omega arith;
+  sellers = omega arith;
+  rent = omega arith;
+  traded = omega arith;
+  shortfall = omega arith;
+}
+shared_size Buy accepted volumes a v = record {
+  buyers = omega arith;
+  sellers = omega arith;
+  rent = omega arith;
+  traded = omega arith;
+  shortfall = omega arith;
+}
 
 -- the surplus of what is accepted is no larger than that of the whole
 pub part_size : (surplus : ℤ) (ratio : ℕ) → nat_abs surplus ≤ 50000000000000 → ratio ≤ most_ratio → nat_abs (part_of surplus ratio) ≤ 50000000000000

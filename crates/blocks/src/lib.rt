@@ -2,20 +2,22 @@
 #![tactic(auto)]
 
 ghost use Rattle.std.specs.Prelude.{◌≡◌, true, ◌&&◌, ◌+◌, ◌*◌, ◌≤◌, ◌<◌, leb, ltb, pos, nat_abs, ◌+ℤ◌, length, get_or};
-ghost use Rattle.whole.specs.Whole.{◌≼◌, sum, at, above_zero};
-ghost use Rattle.cells.specs.Cells.{added, Gained, Within, shortfall};
+ghost use Rattle.whole.specs.Whole.{◌≼◌, sum, above_zero};
+ghost use Rattle.cells.specs.Cells.{added, Within};
+ghost use Rattle.cells.specs.Gains.{nothing, SumsWithin, SumsGained};
 ghost use Rattle.limits.specs.Limits.{most_price, most_volume, most_ratio, is_price};
 ghost use Rattle.market.specs.Market.{block_volume};
 ghost use Rattle.rows.specs.Rows.{block_quantity};
 ghost use Rattle.book.specs.Book.{prices_of};
-ghost use Rattle.book.specs.Of.{OfClearing};
-ghost use Rattle.book.specs.Framed.{Framed, PricesSmall};
+ghost use Rattle.book.specs.Framed.{PricesSmall};
 ghost use Rattle.blocks.specs.Block.{HeadRow, WalkedTo, surplus_by, signed_volume, Ready, BroughtTo, shared, part_of, Accepted};
 ghost use Rattle.blocks.specs.Sure.{BlockCounted, BlocksCounted};
 
+use book::Framed;
+use cells::Sums;
 use day::Counts;
 use market::Side;
-use rows::Kind;
+use rows::{Form, Kind};
 
 // ---- the head of a row
 
@@ -56,7 +58,7 @@ fn plus(all: u64, n: u32) -> u64
     requires { all ≤ 1000000000000 }
     ensures { result ≡ all + n }
 {
-    all + n as u64
+    all + u64::from(n)
 }
 
 // A price raised by the highest, so that none is below 0.
@@ -71,7 +73,7 @@ fn plus_worth(worth: u64, price: u32, quantity: u32) -> u64
     requires { (worth ≤ 1000000000000000000) × (price ≤ 2000000) }
     ensures { result ≡ worth + price * quantity }
 {
-    worth + price as u64 * quantity as u64
+    worth + u64::from(price) * u64::from(quantity)
 }
 
 fn either(a: u32, b: u32) -> u32
@@ -81,18 +83,18 @@ fn either(a: u32, b: u32) -> u32
 }
 
 // A block whose row starts at `at`, at the prices of its zone.
-fn over_periods(part: &[u8], at: usize, clearing: &[u8], counts: Counts, zone: usize) -> Walked
-    requires periods_in_bounds { at + (8 + 4 * counts.periods) ≤ length part.now }
-    requires of_clearing { (OfClearing clearing.now counts) × ((PricesSmall counts clearing.now) × (zone < counts.zones)) }
-    ensures { WalkedTo (block_quantity part.now at) (prices_of counts clearing.now zone)
-        counts.periods result.all result.worth result.bits }
+fn over_periods(part: &[u8], at: usize, framed: Framed<'_>, zone: usize) -> Walked
+    requires periods_in_bounds { at + (8 + 4 * framed.counts.periods) ≤ length part.now }
+    requires prices { (PricesSmall framed.counts framed.clearing.now) × (zone < framed.counts.zones) }
+    ensures { WalkedTo (block_quantity part.now at) (prices_of framed.entry.counts framed.entry.clearing.now zone)
+        framed.entry.counts.periods result.all result.worth result.bits }
 {
     let mut all: u64 = 0;
     let mut worth: u64 = 0;
     let mut bits: u32 = 0;
-    for period in 0..counts.periods {
+    for period in 0..framed.counts.periods {
         let quantity = wire::u32_at(part, at + 8 + 4 * period);
-        let price = raised(book::price_of(clearing, counts, zone, period));
+        let price = raised(framed.price(zone, period));
         all = plus(all, quantity);
         worth = plus_worth(worth, price, quantity);
         bits = either(bits, quantity);
@@ -100,6 +102,7 @@ fn over_periods(part: &[u8], at: usize, clearing: &[u8], counts: Counts, zone: u
     Walked { all, worth, bits }
 }
 
+// By `as` here and below, which is proved to fit: `TryFrom` would give an error that never comes.
 fn surplus_of(side: Side, limit: i64, all: u64, worth: u64) -> i64
     requires { (nat_abs limit ≤ most_price) × ((all ≤ 1000000000000) × (worth ≤ 1000000000000000000)) }
     ensures { result ≡ surplus_by side limit all worth }
@@ -126,7 +129,7 @@ fn volume_of(ratio: u32, quantity: u32) -> u32
     }
 }
 
-fn add_volume(side: Side, volume: u32, cell: usize, nets: &mut [i64])
+fn add_volume(side: Side, volume: u32, cell: usize, nets: &mut [i64; 200])
     requires volume_le_most_volume { (volume ≤ most_volume) × (cell < length nets.old) }
     requires pos_bound { nat_abs (get_or nets.old cell (pos 0)) ≤ 3000000000000000000 }
     ensures { nets.new ≡ added nets.old cell (signed_volume side volume) }
@@ -145,10 +148,10 @@ fn add_volumes(
     zone: usize,
     side: Side,
     ratio: u32,
-    nets: &mut [i64],
+    nets: &mut [i64; 200],
 ) -> u64
     requires ready { Ready counts part.now at zone ratio }
-    requires nets_len { (length nets.old ≡ 200) × (Within counts.zones counts.periods 2000000000000000000 nets.old) }
+    requires nets_within { Within counts.zones counts.periods 2000000000000000000 nets.old }
     ensures { BroughtTo counts.zones counts.periods zone side (λ h. block_volume ratio (block_quantity part.now at h))
         counts.periods result nets.old nets.new }
 {
@@ -176,28 +179,28 @@ fn part_of(surplus: i64, ratio: u32) -> i64
     (surplus as u64 * ratio as u64 / 1000) as i64
 }
 
-fn share(side: Side, accepted: i64, volumes: u64, sums: &mut [i64])
+fn share(side: Side, accepted: i64, volumes: u64, sums: &mut Sums)
     requires accepted_bound { (nat_abs accepted ≤ 50000000000000) × (volumes ≤ 1000000000000) }
-    requires sums_len { (length sums.old ≡ 5) × (Within 1 5 2000000000000000000 sums.old) }
-    ensures { Gained 1 5 (λ _. shared side accepted (pos volumes)) sums.old sums.new }
+    requires sums_within { SumsWithin 2000000000000000000 sums.old }
+    ensures { SumsGained (shared side accepted (pos volumes)) sums.old sums.new }
 {
     match side {
-        Side::Sell => cells::add_at(sums, cells::SELLERS, accepted),
+        Side::Sell => sums.sellers += accepted,
         Side::Buy => {
-            cells::add_at(sums, cells::BUYERS, accepted);
-            cells::add_at(sums, cells::TRADED, volumes as i64)
+            sums.buyers += accepted;
+            sums.traded += volumes as i64;
         }
     }
 }
 
 // The surplus of what is left, where it is above 0.
-fn miss(left: i64, sums: &mut [i64])
+fn miss(left: i64, sums: &mut Sums)
     requires left_bound { nat_abs left ≤ 100000000000000 }
-    requires sums_len { (length sums.old ≡ 5) × (Within 1 5 3000000000000000000 sums.old) }
-    ensures { Gained 1 5 (λ _ s. at shortfall (above_zero left) s) sums.old sums.new }
+    requires sums_within { SumsWithin 3000000000000000000 sums.old }
+    ensures { SumsGained (record nothing { shortfall = above_zero left }) sums.old sums.new }
 {
     if 0 < left {
-        cells::add_at(sums, cells::SHORTFALL, left);
+        sums.shortfall += left;
     }
 }
 
@@ -214,13 +217,13 @@ fn accept(
     ratio: u32,
     all: u64,
     surplus: i64,
-    nets: &mut [i64],
-    sums: &mut [i64],
+    nets: &mut [i64; 200],
+    sums: &mut Sums,
 ) -> bool
     requires ready { Ready counts part.now at zone ratio }
     requires all_value { (pos all ≡ sum counts.periods (λ h. pos (block_quantity part.now at h))) × (nat_abs surplus ≤ 50000000000000) }
-    requires nets_len { (length nets.old ≡ 200) × (Within counts.zones counts.periods 2000000000000000000 nets.old) }
-    requires sums_len { (length sums.old ≡ 5) × (Within 1 5 2000000000000000000 sums.old) }
+    requires nets_within { Within counts.zones counts.periods 2000000000000000000 nets.old }
+    requires sums_within { SumsWithin 2000000000000000000 sums.old }
     ensures { result ≡ true → Accepted counts.zones counts.periods zone side ratio (block_quantity part.now at) surplus
         nets.old nets.new sums.old sums.new }
 {
@@ -237,34 +240,33 @@ fn accept(
     true
 }
 
-fn count_block(
-    day: &[u8],
-    clearing: &[u8],
-    counts: Counts,
-    row: usize,
-    nets: &mut [i64],
-    sums: &mut [i64],
-) -> bool
-    requires framed { (Framed day.now clearing.now counts) × ((PricesSmall counts clearing.now) × (row < counts.blocks)) }
-    requires nets_len { (length nets.old ≡ 200) × (Within counts.zones counts.periods 2000000000000000000 nets.old) }
-    requires sums_len { (length sums.old ≡ 5) × (Within 1 5 2000000000000000000 sums.old) }
-    ensures { result ≡ true → BlockCounted counts day.now clearing.now row
+fn count_block(framed: Framed<'_>, row: usize, nets: &mut [i64; 200], sums: &mut Sums) -> bool
+    requires prices { (PricesSmall framed.counts framed.clearing.now) × (row < framed.counts.blocks) }
+    requires nets_within { Within framed.counts.zones framed.counts.periods 2000000000000000000 nets.old }
+    requires sums_within { SumsWithin 2000000000000000000 sums.old }
+    ensures { result ≡ true → BlockCounted framed.entry.counts framed.entry.day.now framed.entry.clearing.now row
         nets.old nets.new sums.old sums.new }
 {
-    let part = parts::blocks_part(day, counts);
-    let at = book::row_start(Kind::Blocks, counts.periods, row);
-    if !head_ok(part, at, counts.zones) {
+    let part = framed.blocks_part();
+    let at = book::row_start(
+        Form {
+            kind: Kind::Blocks,
+            periods: framed.counts.periods,
+        },
+        row,
+    );
+    if !head_ok(part, at, framed.counts.zones) {
         return false;
     }
     let block = book::block_at(part, at);
-    let ratio = book::ratio_of(clearing, counts, row);
+    let ratio = framed.ratio(row);
     if market::WHOLE < ratio {
         return false;
     }
     if !market::ratio_ok(block.least, ratio) {
         return false;
     }
-    let whole = over_periods(part, at, clearing, counts, block.zone);
+    let whole = over_periods(part, at, framed, block.zone);
     if limits::VOLUME_MOST < whole.bits {
         return false;
     }
@@ -278,27 +280,29 @@ fn count_block(
         return true;
     }
     accept(
-        part, at, counts, block.zone, side, ratio, whole.all, surplus, nets, sums,
+        part,
+        at,
+        framed.counts,
+        block.zone,
+        side,
+        ratio,
+        whole.all,
+        surplus,
+        nets,
+        sums,
     )
 }
 
 // ---- all blocks
 
-pub fn count_blocks(
-    day: &[u8],
-    clearing: &[u8],
-    counts: Counts,
-    nets: &mut [i64],
-    sums: &mut [i64],
-) -> bool
-    requires framed { (Framed day.now clearing.now counts) × (PricesSmall counts clearing.now) }
-    requires nets_len { (length nets.old ≡ 200) × (length sums.old ≡ 5) }
-    requires within { (Within counts.zones counts.periods 1000000000000000000 nets.old) × (Within 1 5 1000000000000000000 sums.old) }
-    ensures { result ≡ true → BlocksCounted counts day.now clearing.now
+pub fn count_blocks(framed: Framed<'_>, nets: &mut [i64; 200], sums: &mut Sums) -> bool
+    requires prices { PricesSmall framed.counts framed.clearing.now }
+    requires within { (Within framed.counts.zones framed.counts.periods 1000000000000000000 nets.old) × (SumsWithin 1000000000000000000 sums.old) }
+    ensures { result ≡ true → BlocksCounted framed.entry.counts framed.entry.day.now framed.entry.clearing.now
         nets.old nets.new sums.old sums.new }
 {
-    for row in 0..counts.blocks {
-        if !count_block(day, clearing, counts, row, nets, sums) {
+    for row in 0..framed.counts.blocks {
+        if !count_block(framed, row, nets, sums) {
             return false;
         }
     }

@@ -6,11 +6,11 @@ use Rattle.market.specs.Market.{Choice, order_value}
 use Rattle.market.specs.Other.{Allowed}
 use Rattle.market.specs.declared.Totals.{Totals}
 use Rattle.verdict.specs.Verdict.{day_of, verdict}
-use Rattle.verdict.specs.declared.Outcome.TheVariants.{Accepted}
 use Rattle.cases.specs.Others.{shown, left_out}
+use Rattle.std.specs.Prelude.{Ok}
 
 -- so the bound does not hold without the shortfall
-pub shortfall_needed : ¬ ((day clearing : List ℕ) (room : ℕ) (t : Totals) → verdict day clearing room ≡ Accepted t →
+pub shortfall_needed : ¬ ((day clearing : List ℕ) (room : ℕ) (t : Totals) → verdict day clearing room ≡ Ok t →
     (other : Choice) → Allowed (day_of day) other → order_value (day_of day) other ≼ t.value)
 shortfall_needed bound =
     let other = shown.1.1.1.0 in

@@ -10,9 +10,9 @@ use Rattle.day.specs.Day.{day_stages}
 use Rattle.clearing.specs.Clearing.{clearing_stages}
 use Rattle.book.specs.Book.{floor_of, ceiling_of, step_of, line_of, forward_of, back_of, block_of, quantity_of, volume_of, ratio_of, prices_of, flow_of}
 use Rattle.verdict.specs.Verdict.{verdict}
-use Rattle.verdict.specs.declared.Outcome.{Outcome}
-use Rattle.verdict.specs.declared.Outcome.TheVariants.{Accepted, Refused}
 use Rattle.cases.specs.Files.{day_a, clearing_a, empty_day, empty_clearing}
+use Rattle.std.specs.Prelude.{Ok, Err}
+use Rattle.verdict.specs.Verdict.{Outcome}
 
 pub record Case : Type 0 where
   pub day : List ℕ
@@ -22,7 +22,7 @@ pub record Case : Type 0 where
 -- order value, buyers, sellers, rent, traded, shortfall
 abbrev pub accepted : ℕ → ℕ → ℕ → ℕ → ℕ → ℕ → Outcome
 accepted value buyers sellers rent traded shortfall =
-    Accepted (record {
+    Ok (record {
       value = pos value;
       buyers = pos buyers;
       sellers = pos sellers;
@@ -32,7 +32,7 @@ accepted value buyers sellers rent traded shortfall =
     })
 
 abbrev pub refused : ℕ → ℕ → ℕ → Outcome
-refused number first second = Refused number (place first second)
+refused number first second = Err (number, place first second)
 
 abbrev pub table : List Case
 table =

@@ -3,10 +3,10 @@
 use Rattle.std.specs.Prelude.{ℕ, ◌+◌, List, [], ◌∷◌, ◌++◌, pos, neg_ℤ, length, take, drop}
 use Rattle.stages.specs.Stage.{field_place}
 use Rattle.wire.specs.Bytes.{bytes16, bytes32}
-use Rattle.verdict.specs.declared.Outcome.{Outcome}
-use Rattle.verdict.specs.declared.Outcome.TheVariants.{Refused}
 use Rattle.cases.specs.Files.{i32, day_a, clearing_a}
 use Rattle.cases.specs.Cases.{Case}
+use Rattle.std.specs.Prelude.{Err}
+use Rattle.verdict.specs.Verdict.{Outcome}
 
 -- a file with other bytes from a place on
 abbrev put : ℕ → List ℕ → List ℕ → List ℕ
@@ -14,7 +14,7 @@ put at bytes file = take at file ++ bytes ++ drop (at + length bytes) file
 
 -- the refusal by a field of a row of a section
 abbrev field : ℕ → ℕ → ℕ → ℕ → Outcome
-field number section row f = Refused number (field_place section row f)
+field number section row f = Err (number, field_place section row f)
 
 -- in day A the periods' rows start at the byte 2, the zones' at 12, the lines' at 18, the steps' at 30 and the blocks' at 80
 abbrev in_day : ℕ → List ℕ → Outcome → Case

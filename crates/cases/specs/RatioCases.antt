@@ -10,10 +10,10 @@ use Rattle.market.specs.declared.Rule.TheVariants.{Whole}
 use Rattle.day.specs.Day.{day_stages}
 use Rattle.clearing.specs.Clearing.{clearing_stages}
 use Rattle.book.specs.Book.{floor_of, ceiling_of, step_of, line_of, forward_of, back_of, block_of, quantity_of, volume_of, ratio_of, prices_of, flow_of}
-use Rattle.verdict.specs.declared.Outcome.{Outcome}
 use Rattle.cases.specs.Files.{day_with, clearing_with, clearing_a}
 use Rattle.cases.specs.Cases.{Case, accepted, refused, Shown}
 use Rattle.cases.specs.OneBlock.{one_block, accepting, two_prices}
+use Rattle.verdict.specs.Verdict.{Outcome}
 
 -- day A's block with a least ratio, a quantity and a price; step 2 and the block share 200 of zone 1 where nothing is wrong
 abbrev block : ℕ → ℕ → ℕ → ℕ → ℕ → Outcome → Case

@@ -1,4 +1,4 @@
-// A table of zones and periods, all periods of zone 0 first, in which numbers are gathered.
+// A table of zones and periods, all periods of zone 0 first, in which numbers are gathered; and the sums over all rows.
 #![tactic(auto)]
 
 ghost use Rattle.std.specs.Prelude.{◌≡◌, ◌+◌, ◌*◌, ◌<◌, pos, ◌+ℤ◌, length, get_or};
@@ -6,16 +6,15 @@ ghost use Rattle.std.specs.Int.{w64};
 ghost use Rattle.std.proofs.Common.{SFits};
 ghost use Rattle.cells.specs.Cells.{added};
 
-// A row of five sums is such a table too, of one zone: where each of them stands.
-pub const BUYERS: usize = 0;
-
-pub const SELLERS: usize = 1;
-
-pub const RENT: usize = 2;
-
-pub const TRADED: usize = 3;
-
-pub const SHORTFALL: usize = 4;
+// What is summed over the rows: the surpluses of buyers and sellers, the rent, the traded volume and the shortfall.
+#[derive(Clone, Copy, Debug, Default, PartialEq, Eq)]
+pub struct Sums {
+    pub buyers: i64,
+    pub sellers: i64,
+    pub rent: i64,
+    pub traded: i64,
+    pub shortfall: i64,
+}
 
 // The cell of a zone and period.
 pub fn cell(periods: usize, zone: usize, period: usize) -> usize

@@ -1,8 +1,6 @@
 -- The clearing file: four sections, with the counts that the day file asks, and nothing after them. Assumes nothing.
 use Rattle.std.specs.Prelude.{ℕ, ◌*◌, List, ◌++◌}
-use Rattle.stages.specs.Stage.{Stage, first_fault, answer}
-use Rattle.stages.specs.declared.Fault.{Fault}
-use Rattle.stages.specs.declared.Fault.TheVariants.{Broken, Clean}
+use Rattle.stages.specs.Stage.{Stage}
 use Rattle.sections.specs.Section.{Numbers, after, ended}
 use Rattle.rows.specs.Rows.{row_size}
 use Rattle.rows.specs.declared.Kind.{Kind}
@@ -10,8 +8,9 @@ use Rattle.rows.specs.declared.Kind.TheVariants.{Prices, Flows, Volumes, Ratios}
 use Rattle.reader.specs.Reader.{file_section}
 use Rattle.day.specs.Day.{counts, day_stages}
 use Rattle.day.specs.declared.Counts.{Counts}
-use Rattle.clearing.specs.declared.Files.{Files}
-use Rattle.clearing.specs.declared.Files.TheVariants.{Good, Bad}
+use Rattle.std.specs.Prelude.{Result}
+use Rattle.stages.specs.declared.Refusal.{Refusal}
+use Rattle.stages.specs.Stage.{judged}
 
 -- ---- the parts of a clearing file: each starts where the one before it ended
 
@@ -52,10 +51,5 @@ abbrev pub file_stages : List ℕ → List ℕ → List Stage
 file_stages day clearing = day_stages day ++ clearing_stages (counts day) clearing
 
 -- the number and the place of the first fault, or the counts of two files that read without fault
-abbrev pub files : List ℕ → List ℕ → Files
-files day clearing = answer (Good (counts day)) Bad (first_fault (file_stages day clearing))
-
--- the number and the place of each answer; a good one has no fault
-abbrev pub fault_of : Files → Fault
-fault_of (Good c) = Clean
-fault_of (Bad k p) = Broken k p
+abbrev pub files : List ℕ → List ℕ → Result Counts Refusal
+files day clearing = judged (counts day) (file_stages day clearing)

@@ -2,7 +2,6 @@
 use Rattle.std.specs.Prelude.{ℕ, ◌*◌, ◌↔◌, List}
 use Rattle.std.proofs.Common.{arith}
 use Rattle.stages.specs.Stage.{Means, field_place}
-use Rattle.stages.specs.declared.Fault.TheVariants.{Broken}
 use Rattle.sections.specs.Section.{ended}
 use Rattle.sections.specs.Good.{OwnNumber, ended_other}
 use Rattle.rows.specs.declared.Kind.TheVariants.{Prices, Flows, Volumes, Ratios}
@@ -11,6 +10,7 @@ use Rattle.reader.specs.Chain.{then_bad}
 use Rattle.day.specs.declared.Counts.{Counts}
 use Rattle.clearing.specs.Clearing.{flows_part, volumes_part, ratios_part, end_part, clearing_numbers, clearing_stages}
 use Rattle.clearing.specs.Chain.{from_flows, from_volumes, from_ratios}
+use Rattle.std.specs.Prelude.{Err}
 
 -- the field of the row of the section s is the first of the clearing file that fails its test, for a day of these counts
 abbrev pub ClearingField : Counts → List ℕ → ℕ → ℕ → ℕ → Type 0
@@ -21,7 +21,7 @@ ClearingField c clearing s row field =
     (BadFrom s row field 4 Ratios c.blocks c.blocks 0 0 (ratios_part clearing) ⊥)))
 
 pub clearing_field : (c : Counts) (clearing : List ℕ) (s row field : ℕ) →
-    Means (clearing_stages c clearing) (Broken 7 (field_place s row field)) ↔ ClearingField c clearing s row field
+    Means (clearing_stages c clearing) (Err (7, field_place s row field)) ↔ ClearingField c clearing s row field
 unfolding clearing_stages
 clearing_field c clearing s row field =
     let p = c.zones * c.periods in

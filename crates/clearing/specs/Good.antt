@@ -1,10 +1,9 @@
 -- What two files that read without fault guarantee, and what the reader's two answers mean. Assumes nothing.
-use Rattle.std.specs.Prelude.{ℕ, ◌+◌, ◌*◌, ◌<◌, ◌≤◌, ◌≡◌, refl, ◌↔◌, List, length}
+use Rattle.std.specs.Prelude.{ℕ, ◌+◌, ◌*◌, ◌<◌, ◌≤◌, ◌≡◌, ◌↔◌, List, length}
 use Rattle.std.proofs.Common.{le_antisymm, arith, sym, ap, ◌∙◌}
 use Rattle.stages.specs.Stage.{Means, clean-++, first_fault}
-use Rattle.stages.proofs.StageLaws.{means, answer_fault, answer_good, answer_bad}
+use Rattle.stages.proofs.StageLaws.{means, result_fault, result_good, result_bad}
 use Rattle.stages.specs.declared.Place.{Place}
-use Rattle.stages.specs.declared.Fault.TheVariants.{Broken, Clean}
 use Rattle.sections.specs.Section.{count, after, ended}
 use Rattle.sections.specs.Good.{ended_clean, part_length}
 use Rattle.wire.specs.Bytes.{u16_at, u32_at, i32_at}
@@ -18,10 +17,11 @@ use Rattle.reader.specs.Chain.{then_clean}
 use Rattle.day.specs.declared.Counts.{Counts}
 use Rattle.day.specs.Day.{counts, day_stages}
 use Rattle.day.specs.Good.{GoodDay, InLimits, in_limits, prices_most, flows_most, day_clean}
-use Rattle.clearing.specs.Clearing.{flows_part, volumes_part, ratios_part, end_part, clearing_numbers, clearing_stages, file_stages, files, fault_of}
+use Rattle.clearing.specs.Clearing.{flows_part, volumes_part, ratios_part, end_part, clearing_numbers, clearing_stages, file_stages, files}
 use Rattle.clearing.specs.Chain.{from_flows, from_volumes, from_ratios}
-use Rattle.clearing.specs.declared.Files.{Files}
-use Rattle.clearing.specs.declared.Files.TheVariants.{Good, Bad}
+use Rattle.std.specs.Prelude.{Result, Ok, Err}
+use Rattle.stages.specs.declared.Refusal.{Refusal}
+use Rattle.stages.specs.Stage.{clean, fault_of}
 
 -- ---- the guarantees
 
@@ -46,7 +46,7 @@ clearing_length c = 2 + 4 * (c.zones * c.periods) + (2 + 4 * (c.lines * c.period
 
 -- ---- where all stages are clean
 
-pub clearing_clean : (c : Counts) (clearing : List ℕ) → Means (clearing_stages c clearing) Clean ↔ GoodClearing c clearing
+pub clearing_clean : (c : Counts) (clearing : List ℕ) → Means (clearing_stages c clearing) clean ↔ GoodClearing c clearing
 unfolding clearing_stages
 clearing_clean c clearing =
     let p = c.zones * c.periods in
@@ -65,7 +65,7 @@ clearing_clean c clearing =
       λ g. c1.1 (g.prices_good, c2.1 (g.flows_good, c3.1 (g.volumes_good, c4.1 (g.ratios_good, e.1 g.no_more)))),
     )
 
-pub files_clean : (day clearing : List ℕ) → Means (file_stages day clearing) Clean ↔ (GoodDay day × GoodClearing (counts day) clearing)
+pub files_clean : (day clearing : List ℕ) → Means (file_stages day clearing) clean ↔ (GoodDay day × GoodClearing (counts day) clearing)
 files_clean day clearing =
     let b = clean-++ (day_stages day) (clearing_stages (counts day) clearing) in
     let d = day_clean day in
@@ -75,29 +75,29 @@ files_clean day clearing =
 -- ---- the two answers
 
 -- their number and place are those of the first fault
-pub files_fault : (day clearing : List ℕ) {r : Files} → r ≡ files day clearing → fault_of r ≡ first_fault (file_stages day clearing)
-files_fault day clearing e = ap fault_of e ∙ answer_fault (Good (counts day)) Bad fault_of refl (λ k p. refl) (first_fault (file_stages day clearing))
+pub files_fault : (day clearing : List ℕ) {r : Result Counts Refusal} → r ≡ files day clearing → fault_of r ≡ first_fault (file_stages day clearing)
+files_fault day clearing e = ap fault_of e ∙ result_fault (counts day) (first_fault (file_stages day clearing))
 
 -- two files read without fault just where they keep the guarantees
-pub files_good : (day clearing : List ℕ) → (files day clearing ≡ Good (counts day)) ↔ (GoodDay day × GoodClearing (counts day) clearing)
+pub files_good : (day clearing : List ℕ) → (files day clearing ≡ Ok (counts day)) ↔ (GoodDay day × GoodClearing (counts day) clearing)
 files_good day clearing =
-    let a = answer_good (Good (counts day)) Bad fault_of refl (λ k p. refl) (file_stages day clearing) in
+    let a = result_good (counts day) (file_stages day clearing) in
     let c = files_clean day clearing in
     (λ e. c.0 (a.0 e), λ g. a.1 (c.1 g))
 
 -- they are refused with a number and a place just where that is their first fault
-pub files_bad : (day clearing : List ℕ) (k : ℕ) (p : Place) → (files day clearing ≡ Bad k p) ↔ Means (file_stages day clearing) (Broken k p)
-files_bad day clearing = answer_bad (Good (counts day)) Bad fault_of refl (λ k p. refl) (file_stages day clearing)
+pub files_bad : (day clearing : List ℕ) (k : ℕ) (p : Place) → (files day clearing ≡ Err (k, p)) ↔ Means (file_stages day clearing) (Err (k, p))
+files_bad day clearing = result_bad (counts day) (file_stages day clearing)
 
 -- the counts of a good answer are the day file's
-pub good_files : (day clearing : List ℕ) (c : Counts) → files day clearing ≡ Good c → (counts day ≡ c) × (GoodDay day × GoodClearing (counts day) clearing)
+pub good_files : (day clearing : List ℕ) (c : Counts) → files day clearing ≡ Ok c → (counts day ≡ c) × (GoodDay day × GoodClearing (counts day) clearing)
 good_files day clearing c e =
-    let f : first_fault (file_stages day clearing) ≡ Clean = sym (files_fault day clearing (sym e)) in
-    let same : Good (counts day) ≡ Good c = rw f at e in
-    (cc, (files_clean day clearing).0 ((means (file_stages day clearing) Clean).0 f))
+    let f : first_fault (file_stages day clearing) ≡ clean = sym (files_fault day clearing (sym e)) in
+    let same : Ok (counts day) ≡ Ok c = rw f at e in
+    (cc, (files_clean day clearing).0 ((means (file_stages day clearing) clean).0 f))
 
 -- the contract of `read_files` allows one answer
-pub one_files_answer : (day clearing : List ℕ) {r s : Files} → r ≡ files day clearing → s ≡ files day clearing → r ≡ s
+pub one_files_answer : (day clearing : List ℕ) {r s : Result Counts Refusal} → r ≡ files day clearing → s ≡ files day clearing → r ≡ s
 one_files_answer day clearing p q = p ∙ sym q
 
 -- ---- how long a good clearing file is

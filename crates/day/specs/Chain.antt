@@ -1,14 +1,12 @@
 -- The stages and the counts of a day file from each section on, as the readers hand on what is left of the file. Assumes nothing.
 use Rattle.std.specs.Prelude.{ℕ, List, ◌++◌}
-use Rattle.stages.specs.Stage.{Stage, first_fault, answer}
+use Rattle.stages.specs.Stage.{Stage}
 use Rattle.sections.specs.Section.{count, after, ended}
 use Rattle.limits.specs.Limits.{most_zones, most_lines, most_steps, most_blocks}
 use Rattle.rows.specs.Rows.{row_size}
 use Rattle.rows.specs.declared.Kind.TheVariants.{Zones, Lines, Steps, Blocks}
 use Rattle.day.specs.Day.{day_section}
 use Rattle.day.specs.declared.Counts.{Counts}
-use Rattle.day.specs.declared.DayFile.{DayFile}
-use Rattle.day.specs.declared.DayFile.TheVariants.{Good, Bad}
 
 -- the stages
 abbrev pub from_blocks : ℕ → ℕ → List ℕ → List Stage
@@ -38,7 +36,3 @@ counts_lines periods zones part = counts_steps periods zones (count part) (after
 
 abbrev pub counts_zones : ℕ → List ℕ → Counts
 counts_zones periods part = counts_lines periods (count part) (after (row_size Zones periods) part)
-
--- the answer of a reader that has come so far
-abbrev pub file_from : Counts → List Stage → DayFile
-file_from counts stages = answer (Good counts) Bad (first_fault stages)

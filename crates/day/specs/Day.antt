@@ -1,8 +1,6 @@
 -- The day file: five sections, and nothing after them. Assumes nothing.
 use Rattle.std.specs.Prelude.{ℕ, List, ◌++◌}
-use Rattle.stages.specs.Stage.{Stage, first_fault, answer}
-use Rattle.stages.specs.declared.Fault.{Fault}
-use Rattle.stages.specs.declared.Fault.TheVariants.{Broken, Clean}
+use Rattle.stages.specs.Stage.{Stage}
 use Rattle.sections.specs.Section.{Numbers, count, after, ended}
 use Rattle.limits.specs.Limits.{most_periods, most_zones, most_lines, most_steps, most_blocks}
 use Rattle.rows.specs.Rows.{row_size}
@@ -10,8 +8,9 @@ use Rattle.rows.specs.declared.Kind.{Kind}
 use Rattle.rows.specs.declared.Kind.TheVariants.{Periods, Zones, Lines, Steps, Blocks}
 use Rattle.reader.specs.Reader.{file_section}
 use Rattle.day.specs.declared.Counts.{Counts}
-use Rattle.day.specs.declared.DayFile.{DayFile}
-use Rattle.day.specs.declared.DayFile.TheVariants.{Good, Bad}
+use Rattle.std.specs.Prelude.{Result}
+use Rattle.stages.specs.declared.Refusal.{Refusal}
+use Rattle.stages.specs.Stage.{judged}
 
 -- ---- the parts of a day file: each starts where the one before it ended
 
@@ -68,10 +67,5 @@ day_stages day =
 -- ---- what the reader of a day file answers
 
 -- the number and the place of the first fault, or the counts of a day file that reads without fault
-abbrev pub day_file : List ℕ → DayFile
-day_file day = answer (Good (counts day)) Bad (first_fault (day_stages day))
-
--- the number and the place of each answer; a good one has no fault
-abbrev pub fault_of : DayFile → Fault
-fault_of (Good c) = Clean
-fault_of (Bad k p) = Broken k p
+abbrev pub day_file : List ℕ → Result Counts Refusal
+day_file day = judged (counts day) (day_stages day)

@@ -2,7 +2,6 @@
 use Rattle.std.specs.Prelude.{ℕ, ◌↔◌, List}
 use Rattle.std.proofs.Common.{arith}
 use Rattle.stages.specs.Stage.{Means, field_place}
-use Rattle.stages.specs.declared.Fault.TheVariants.{Broken}
 use Rattle.sections.specs.Section.{ended}
 use Rattle.sections.specs.Good.{OwnNumber, ended_other}
 use Rattle.limits.specs.Limits.{most_periods, most_zones, most_lines, most_steps, most_blocks}
@@ -11,6 +10,7 @@ use Rattle.reader.specs.Reader.{BadFrom}
 use Rattle.reader.specs.Chain.{then_bad}
 use Rattle.day.specs.Chain.{from_zones, from_lines, from_steps, from_blocks}
 use Rattle.day.specs.Day.{periods, zones, zones_part, lines_part, steps_part, blocks_part, end_part, day_numbers, day_stages}
+use Rattle.std.specs.Prelude.{Err}
 
 -- the field of the row of the section s is the first of the day file that fails its test: the sections before it read without fault, and its
 -- own count, limit and room are good
@@ -22,7 +22,7 @@ DayField day s row field =
     (BadFrom s row field 4 Steps 0 most_steps (periods day) (zones day) (steps_part day)
     (BadFrom s row field 5 Blocks 0 most_blocks (periods day) (zones day) (blocks_part day) ⊥))))
 
-pub day_field : (day : List ℕ) (s row field : ℕ) → Means (day_stages day) (Broken 3 (field_place s row field)) ↔ DayField day s row field
+pub day_field : (day : List ℕ) (s row field : ℕ) → Means (day_stages day) (Err (3, field_place s row field)) ↔ DayField day s row field
 unfolding day_stages
 day_field day s row field =
     let h = periods day in

@@ -1,10 +1,9 @@
 -- What a day file that reads without fault guarantees, and what the reader's two answers mean. Assumes nothing.
-use Rattle.std.specs.Prelude.{ℕ, ◌+◌, ◌*◌, ◌<◌, ◌≤◌, ◌≡◌, refl, ◌↔◌, List, length}
+use Rattle.std.specs.Prelude.{ℕ, ◌+◌, ◌*◌, ◌<◌, ◌≤◌, ◌≡◌, ◌↔◌, List, length}
 use Rattle.std.proofs.Common.{mul-le-mul, arith, sym, ap, ◌∙◌}
 use Rattle.stages.specs.Stage.{Means, first_fault}
-use Rattle.stages.proofs.StageLaws.{means, answer_fault, answer_good, answer_bad}
+use Rattle.stages.proofs.StageLaws.{means, result_fault, result_good, result_bad}
 use Rattle.stages.specs.declared.Place.{Place}
-use Rattle.stages.specs.declared.Fault.TheVariants.{Broken, Clean}
 use Rattle.sections.specs.Section.{count, ended}
 use Rattle.sections.specs.Good.{ended_clean, part_length}
 use Rattle.limits.specs.Limits.{most_periods, most_zones, most_lines, most_steps, most_blocks}
@@ -14,10 +13,11 @@ use Rattle.rows.specs.declared.Kind.TheVariants.{Periods, Zones, Lines, Steps, B
 use Rattle.reader.specs.Reader.{GoodRows}
 use Rattle.reader.specs.Chain.{then_clean}
 use Rattle.day.specs.Chain.{from_zones, from_lines, from_steps, from_blocks}
-use Rattle.day.specs.Day.{periods, zones, zones_part, lines_part, steps_part, blocks_part, end_part, counts, day_numbers, day_stages, day_file, fault_of}
+use Rattle.day.specs.Day.{periods, zones, zones_part, lines_part, steps_part, blocks_part, end_part, counts, day_numbers, day_stages, day_file}
 use Rattle.day.specs.declared.Counts.{Counts}
-use Rattle.day.specs.declared.DayFile.{DayFile}
-use Rattle.day.specs.declared.DayFile.TheVariants.{Good, Bad}
+use Rattle.std.specs.Prelude.{Result, Ok, Err}
+use Rattle.stages.specs.declared.Refusal.{Refusal}
+use Rattle.stages.specs.Stage.{clean, fault_of}
 
 -- ---- the guarantees
 
@@ -69,7 +69,7 @@ module _ {c : Counts} (l : InLimits c) where
 
 -- ---- where all stages are clean
 
-pub day_clean : (day : List ℕ) → Means (day_stages day) Clean ↔ GoodDay day
+pub day_clean : (day : List ℕ) → Means (day_stages day) clean ↔ GoodDay day
 unfolding day_stages
 day_clean day =
     let h = periods day in
@@ -100,29 +100,29 @@ day_clean day =
 -- ---- the two answers
 
 -- their number and place are those of the first fault
-pub day_fault : (day : List ℕ) {r : DayFile} → r ≡ day_file day → fault_of r ≡ first_fault (day_stages day)
-day_fault day e = ap fault_of e ∙ answer_fault (Good (counts day)) Bad fault_of refl (λ k p. refl) (first_fault (day_stages day))
+pub day_fault : (day : List ℕ) {r : Result Counts Refusal} → r ≡ day_file day → fault_of r ≡ first_fault (day_stages day)
+day_fault day e = ap fault_of e ∙ result_fault (counts day) (first_fault (day_stages day))
 
 -- the contract of `read_day` allows one answer
-pub one_day_answer : (day : List ℕ) {r s : DayFile} → r ≡ day_file day → s ≡ day_file day → r ≡ s
+pub one_day_answer : (day : List ℕ) {r s : Result Counts Refusal} → r ≡ day_file day → s ≡ day_file day → r ≡ s
 one_day_answer day p q = p ∙ sym q
 
 -- a day file reads without fault just where it keeps the guarantees
-pub day_good : (day : List ℕ) → (day_file day ≡ Good (counts day)) ↔ GoodDay day
+pub day_good : (day : List ℕ) → (day_file day ≡ Ok (counts day)) ↔ GoodDay day
 day_good day =
-    let a = answer_good (Good (counts day)) Bad fault_of refl (λ k p. refl) (day_stages day) in
+    let a = result_good (counts day) (day_stages day) in
     (λ e. (day_clean day).0 (a.0 e), λ g. a.1 ((day_clean day).1 g))
 
 -- it is refused with a number and a place just where that is its first fault
-pub day_bad : (day : List ℕ) (k : ℕ) (p : Place) → (day_file day ≡ Bad k p) ↔ Means (day_stages day) (Broken k p)
-day_bad day = answer_bad (Good (counts day)) Bad fault_of refl (λ k p. refl) (day_stages day)
+pub day_bad : (day : List ℕ) (k : ℕ) (p : Place) → (day_file day ≡ Err (k, p)) ↔ Means (day_stages day) (Err (k, p))
+day_bad day = result_bad (counts day) (day_stages day)
 
 -- the counts of a good answer are the file's
-pub good_counts : (day : List ℕ) (c : Counts) → day_file day ≡ Good c → (counts day ≡ c) × GoodDay day
+pub good_counts : (day : List ℕ) (c : Counts) → day_file day ≡ Ok c → (counts day ≡ c) × GoodDay day
 good_counts day c e =
-    let f : first_fault (day_stages day) ≡ Clean = sym (day_fault day (sym e)) in
-    let same : Good (counts day) ≡ Good c = rw f at e in
-    (cc, (day_clean day).0 ((means (day_stages day) Clean).0 f))
+    let f : first_fault (day_stages day) ≡ clean = sym (day_fault day (sym e)) in
+    let same : Ok (counts day) ≡ Ok c = rw f at e in
+    (cc, (day_clean day).0 ((means (day_stages day) clean).0 f))
 
 -- ---- how long a good day file is
 

@@ -7,7 +7,6 @@ use Rattle.std.proofs.Math.IntN.{pos}
 use Rattle.whole.specs.Whole.{◌≼◌}
 use Rattle.stages.specs.Stage.{Means, place, field_place}
 use Rattle.stages.specs.declared.Place.{Place}
-use Rattle.stages.specs.declared.Fault.TheVariants.{Broken}
 use Rattle.market.specs.Market.{Choice, order_value, totals}
 use Rattle.market.specs.Rules.{Lawful, number}
 use Rattle.market.specs.Other.{Allowed, SameBlocks, lawful_allowed}
@@ -24,13 +23,13 @@ use Rattle.book.specs.Of.{OfFiles, of_files}
 use Rattle.book.specs.Ranges.{placed, ranged}
 use Rattle.verdict.specs.Verdict.{day_of, prices_of, choice_of, totals_of, statement_of, statement_length_of}
 use Rattle.verdict.specs.Verdict.{stages, leaves, Checked, number_of, place_of, given_totals, zeros}
-use Rattle.verdict.specs.declared.Outcome.{Outcome}
-use Rattle.verdict.specs.declared.Outcome.TheVariants.{Accepted, Refused}
 use Rattle.demands.specs.Sentences.{Passes, FirstBreach, TooShort, Stated}
 use Rattle.demands.proofs.Refusals as refusals
 use Rattle.demands.proofs.Laws.{passes_exactly, refused_is_broken, behind_stays, length_stays}
 use Rattle.demands.proofs.Laws.{six_stated, value_stated, buyers_stated, sellers_stated, rent_stated, traded_stated, shortfall_stated}
 use Rattle.demands.proofs.Laws.{count_stated, net_stated}
+use Rattle.std.specs.Prelude.{Ok, Err}
+use Rattle.verdict.specs.Verdict.{Outcome}
 
 -- what is shown of the verdict is shown of the outcome
 said_of : {x y z : Outcome} {A : Type 0} → x ≡ y → (y ≡ z) ↔ A → (x ≡ z) ↔ A
@@ -39,64 +38,64 @@ said_of e h = (λ f. h.0 (sym e ∙ f), λ a. e ∙ h.1 a)
 module _ {day clearing before : List ℕ} {outcome : Outcome} {after : List ℕ} (c : Checked day clearing before outcome after) where
   -- ==== Demand 1. Any two files. A refusal has a number and a place, gives zero totals and changes no byte of the room.
 
-  pub refusal_changes_nothing : {k : ℕ} {p : Place} → outcome ≡ Refused k p → after ≡ before
+  pub refusal_changes_nothing : {k : ℕ} {p : Place} → outcome ≡ Err (k, p) → after ≡ before
   refusal_changes_nothing e = c.left ∙ ap (λ (o : Outcome). leaves day clearing o before) e
 
-  pub refusal_gives_zeros : {k : ℕ} {p : Place} → outcome ≡ Refused k p → given_totals outcome ≡ zeros
+  pub refusal_gives_zeros : {k : ℕ} {p : Place} → outcome ≡ Err (k, p) → given_totals outcome ≡ zeros
   refusal_gives_zeros e = ap given_totals e
 
   -- its number is from 1 to 8, for the files, or from 11 to 18, or 20 or 21, for the rules and the room
-  pub refusal_number : (k : ℕ) (p : Place) → outcome ≡ Refused k p → ((1 ≤ k) × (k ≤ 8)) ⊎ (((11 ≤ k) × (k ≤ 18)) ⊎ ((20 ≤ k) × (k ≤ 21)))
+  pub refusal_number : (k : ℕ) (p : Place) → outcome ≡ Err (k, p) → ((1 ≤ k) × (k ≤ 8)) ⊎ (((11 ≤ k) × (k ≤ 18)) ⊎ ((20 ≤ k) × (k ≤ 21)))
   refusal_number k p e = refusals.refusal_number day clearing (length before) k p (sym c.said ∙ e)
 
   -- its place names a field for the numbers 3 and 7 alone
-  pub refusal_field : (k : ℕ) (p : Place) → outcome ≡ Refused k p → ¬ (k ≡ 3) → ¬ (k ≡ 7) → p.third ≡ 0
+  pub refusal_field : (k : ℕ) (p : Place) → outcome ≡ Err (k, p) → ¬ (k ≡ 3) → ¬ (k ≡ 7) → p.third ≡ 0
   refusal_field k p e = refusals.field_only day clearing (length before) k p (sym c.said ∙ e)
 
   -- the number 0 is given just for an acceptance
-  pub zero_is_accepted : number_of outcome ≡ 0 → outcome ≡ Accepted (totals_of day clearing)
+  pub zero_is_accepted : number_of outcome ≡ 0 → outcome ≡ Ok (totals_of day clearing)
   zero_is_accepted e = c.said ∙ refusals.zero_is_accepted day clearing (length before) (ap number_of (sym c.said) ∙ e)
 
-  pub accepted_is_zero : {t : Totals} → outcome ≡ Accepted t → (number_of outcome ≡ 0) × (place_of outcome ≡ place 0 0)
+  pub accepted_is_zero : {t : Totals} → outcome ≡ Ok t → (number_of outcome ≡ 0) × (place_of outcome ≡ place 0 0)
   accepted_is_zero e = (ap number_of e, ap place_of e)
 
   -- ==== Demand 2. Accepted exactly when every rule of the rule paper holds and the room is long enough; else the first broken rule at
   -- its first place. Totals and net positions are the defined ones.
 
-  pub accepted_exactly : (t : Totals) → (outcome ≡ Accepted t) ↔ (Passes day clearing (length before) × (totals_of day clearing ≡ t))
+  pub accepted_exactly : (t : Totals) → (outcome ≡ Ok t) ↔ (Passes day clearing (length before) × (totals_of day clearing ≡ t))
   accepted_exactly t = said_of c.said (passes_exactly day clearing (length before) t)
 
   -- `Means .. (Broken k p)`: some stage has the number k and fails first at the place p, and all stages before it hold everywhere
-  pub refused_exactly : (k : ℕ) (p : Place) → (outcome ≡ Refused k p) ↔ Means (stages day clearing (length before)) (Broken k p)
+  pub refused_exactly : (k : ℕ) (p : Place) → (outcome ≡ Err (k, p)) ↔ Means (stages day clearing (length before)) (Err (k, p))
   refused_exactly k p = said_of c.said (refused_is_broken day clearing (length before) k p)
 
   -- the same as sentences. By a rule: the files read, the rules whose turn comes before hold, this one is broken at this place and nowhere
   -- before
   pub refused_by_rule : (rule : Rule) (row col : ℕ) →
-      (outcome ≡ Refused (number rule) (place row col)) ↔ FirstBreach day clearing rule row col
+      (outcome ≡ Err (number rule, place row col)) ↔ FirstBreach day clearing rule row col
   refused_by_rule rule row col = said_of c.said (refusals.refused_by_rule day clearing (length before) rule row col)
 
   -- by a field of the day file: its test fails, and those of the fields before it in its row, of the rows before it and of the sections
   -- before its own hold
-  pub refused_by_day_field : (section row field : ℕ) → (outcome ≡ Refused 3 (field_place section row field)) ↔ DayField day section row field
+  pub refused_by_day_field : (section row field : ℕ) → (outcome ≡ Err (3, field_place section row field)) ↔ DayField day section row field
   refused_by_day_field section row field = said_of c.said (refusals.refused_by_day_field day clearing (length before) section row field)
 
   -- by one of the clearing file, where the day file reads
   pub refused_by_clearing_field : (section row field : ℕ) →
-      (outcome ≡ Refused 7 (field_place section row field)) ↔ (GoodDay day × ClearingField (counts day) clearing section row field)
+      (outcome ≡ Err (7, field_place section row field)) ↔ (GoodDay day × ClearingField (counts day) clearing section row field)
   refused_by_clearing_field section row field =
       said_of c.said (refusals.refused_by_clearing_field day clearing (length before) section row field)
 
   -- by the room: the files read, every rule holds, and the room is shorter than the statement
-  pub refused_by_room : (outcome ≡ Refused 18 (place 0 0)) ↔ TooShort day clearing (length before)
+  pub refused_by_room : (outcome ≡ Err (18, place 0 0)) ↔ TooShort day clearing (length before)
   refused_by_room = said_of c.said (refusals.refused_by_room day clearing (length before))
 
   -- an acceptance writes the statement at the front and leaves the bytes behind it
-  pub acceptance_writes : {t : Totals} → outcome ≡ Accepted t → after ≡ statement_of day clearing ++ drop (statement_length_of day) before
+  pub acceptance_writes : {t : Totals} → outcome ≡ Ok t → after ≡ statement_of day clearing ++ drop (statement_length_of day) before
   acceptance_writes e = c.left ∙ ap (λ (o : Outcome). leaves day clearing o before) e
 
 -- a call that accepts, with the totals t
-module _ {day clearing before after : List ℕ} {t : Totals} (c : Checked day clearing before (Accepted t) after) where
+module _ {day clearing before after : List ℕ} {t : Totals} (c : Checked day clearing before (Ok t) after) where
   passed : Passes day clearing (length before) × (totals_of day clearing ≡ t)
   passed = (accepted_exactly c t).0 refl
 
@@ -173,9 +172,9 @@ longest_statement_lem g = omega (arith, prices_most (in_limits g))
 -- a room as long as that is never too short
 pub long_room : {day clearing before after : List ℕ} {outcome : Outcome} → Checked day clearing before outcome after → 852 ≤ length before →
     number_of outcome ≡ 18 → ⊥
-long_room {outcome = Accepted t} c l e = omega (arith, e)
-long_room {day} {clearing} {before} {outcome = Refused k p} c l e =
-    let short = refusals.too_short day clearing (length before) p (sym c.said ∙ ap (λ (n : ℕ). Refused n p) e) in
+long_room {outcome = Ok t} c l e = omega (arith, e)
+long_room {day} {clearing} {before} {outcome = Err (k, p)} c l e =
+    let short = refusals.too_short day clearing (length before) p (sym c.said ∙ ap (λ (n : ℕ). Err (n, p)) e) in
     omega (arith, l, short.room_lacks, longest_statement_lem short.day_reads)
 
 -- two calls with the same files and the same room have the same outcome and leave the same room

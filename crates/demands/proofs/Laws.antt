@@ -1,14 +1,12 @@
 -- The laws that the demands rest on: where every stage is clean, what is read from the statement of two files (its totals and net
 -- positions fit their bytes), and what an acceptance leaves in the room. Assumes nothing.
-use Rattle.std.specs.Prelude.{ℕ, ◌+◌, ◌*◌, ◌<◌, ◌≤◌, ◌≡◌, refl, ◌↔◌, List, [], ◌∷◌, ◌++◌, ℤ, get_or, length, drop}
+use Rattle.std.specs.Prelude.{ℕ, ◌+◌, ◌*◌, ◌<◌, ◌≤◌, ◌≡◌, ◌↔◌, List, [], ◌∷◌, ◌++◌, ℤ, get_or, length, drop}
 use Rattle.std.proofs.Common.{le_refl, arith, sym, ap, subst, ◌∙◌, SFits, leb-true, le-leb}
 use Rattle.std.specs.Int.{w32, w64}
 use Rattle.whole.proofs.Size.{fits_i64}
 use Rattle.stages.specs.Stage.{Means, clean-++, first_fault}
-use Rattle.stages.proofs.StageLaws.{means, answer_fault, answer_good, answer_bad}
+use Rattle.stages.proofs.StageLaws.{means, result_fault, result_good, result_bad}
 use Rattle.stages.specs.declared.Place.{Place}
-use Rattle.stages.specs.declared.Fault.{Fault}
-use Rattle.stages.specs.declared.Fault.TheVariants.{Broken, Clean}
 use Rattle.wire.specs.Bytes.{u16_at, i32_at, i64_at, put}
 use Rattle.wire.specs.RoundTrip.{put_length}
 use Rattle.market.specs.Market.{Day, Prices, Choice, accepted, net_position, order_value, buyer_surplus, seller_surplus, rent, traded_volume}
@@ -33,41 +31,36 @@ use Rattle.statement.specs.Of.{net_count, net_row, cell_row, flow_row_fits, flow
 use Rattle.verdict.specs.Verdict.{day_of, prices_of, choice_of, totals_of, statement_of, statement_length_of}
 use Rattle.verdict.specs.Verdict.{room_stage, stages, verdict, given_totals}
 use Rattle.demands.specs.Sentences.{Passes}
-use Rattle.verdict.specs.declared.Outcome.{Outcome}
-use Rattle.verdict.specs.declared.Outcome.TheVariants.{Accepted, Refused}
+use Rattle.std.specs.Prelude.{Ok, Err}
+use Rattle.stages.specs.Stage.{clean, fault_of}
 
 -- ---- the stages
-
--- the fault that an outcome tells
-abbrev fault_of : Outcome → Fault
-fault_of (Accepted t) = Clean
-fault_of (Refused k p) = Broken k p
 
 module _ (day clearing : List ℕ) (room : ℕ) where
   -- accepted with some totals: no stage has a fault, and the totals are those of the two files
   accepted_is_clean : (t : Totals) →
-      (verdict day clearing room ≡ Accepted t) ↔ (Means (stages day clearing room) Clean × (totals_of day clearing ≡ t))
+      (verdict day clearing room ≡ Ok t) ↔ (Means (stages day clearing room) clean × (totals_of day clearing ≡ t))
   accepted_is_clean t =
-      let good = Accepted (totals_of day clearing) in
+      let good = totals_of day clearing in
       let ss = stages day clearing room in
-      let clean = answer_good good Refused fault_of refl (λ k p. refl) ss in
-      let fault = answer_fault good Refused fault_of refl (λ k p. refl) (first_fault ss) in (
-        λ e. let m = (means ss Clean).0 (sym fault ∙ ap fault_of e) in (m, ap given_totals (sym (clean.1 m) ∙ e)),
-        λ h. clean.1 h.0 ∙ ap Accepted h.1,
+      let given = result_good good ss in
+      let fault = result_fault good (first_fault ss) in (
+        λ e. let m = (means ss clean).0 (sym fault ∙ ap fault_of e) in (m, ap given_totals (sym (given.1 m) ∙ e)),
+        λ h. given.1 h.0 ∙ ap Ok h.1,
       )
 
   -- refused with a number and a place: that is the first fault
-  pub refused_is_broken : (k : ℕ) (p : Place) → (verdict day clearing room ≡ Refused k p) ↔ Means (stages day clearing room) (Broken k p)
-  refused_is_broken = answer_bad (Accepted (totals_of day clearing)) Refused fault_of refl (λ k p. refl) (stages day clearing room)
+  pub refused_is_broken : (k : ℕ) (p : Place) → (verdict day clearing room ≡ Err (k, p)) ↔ Means (stages day clearing room) (Err (k, p))
+  refused_is_broken = result_bad (totals_of day clearing) (stages day clearing room)
 
-  room_clean : Means (room_stage day room ∷ []) Clean ↔ (statement_length_of day ≤ room)
+  room_clean : Means (room_stage day room ∷ []) clean ↔ (statement_length_of day ≤ room)
   room_clean = (
     λ m. leb-true (statement_length_of day) room (m.0 0 0 (omega arith) (omega arith)),
     λ l. (λ z i _ _. le-leb (statement_length_of day) room l, tt),
   )
 
   -- no stage has a fault just where the files read, the rules hold and the room suffices
-  passes_is : Means (stages day clearing room) Clean ↔ Passes day clearing room
+  passes_is : Means (stages day clearing room) clean ↔ Passes day clearing room
   passes_is =
       let rules = rule_stages (day_of day) (prices_of day clearing) (choice_of day clearing) in
       let later = clean-++ rules (room_stage day room ∷ []) in
@@ -81,7 +74,7 @@ module _ (day clearing : List ℕ) (room : ℕ) where
         λ h. all.1 (files.1 (h.day_reads, h.clearing_reads), later.1 (lawful.1 h.rules_hold, room_clean.1 h.room_suffices)),
       )
 
-  pub passes_exactly : (t : Totals) → (verdict day clearing room ≡ Accepted t) ↔ (Passes day clearing room × (totals_of day clearing ≡ t))
+  pub passes_exactly : (t : Totals) → (verdict day clearing room ≡ Ok t) ↔ (Passes day clearing room × (totals_of day clearing ≡ t))
   passes_exactly t =
       let a = accepted_is_clean t in
       (λ e. (passes_is.0 (a.0 e).0, (a.0 e).1), λ h. a.1 (passes_is.1 h.0, h.1))

@@ -7,8 +7,6 @@ use Rattle.std.proofs.lemmas.Bool.{lt-leb}
 use Rattle.stages.specs.Stage.{Stage, place, field_place, first_fault, answer, Breaks, BrokenAt, Holds, Means, broken_here}
 use Rattle.stages.proofs.StageLaws.{means}
 use Rattle.stages.specs.declared.Place.{Place}
-use Rattle.stages.specs.declared.Fault.{Fault}
-use Rattle.stages.specs.declared.Fault.TheVariants.{Broken, Clean}
 use Rattle.market.specs.Market.{Day, Choice, Prices}
 use Rattle.market.specs.Rules.{number, order, rule_stage, rule_stages}
 use Rattle.market.proofs.RuleLaws.{test_is, breach, rule_holds, listed, each_rule, lawful_is}
@@ -22,10 +20,11 @@ use Rattle.clearing.specs.Clearing.{clearing_stages, file_stages}
 use Rattle.clearing.specs.Good.{GoodClearing, files_clean}
 use Rattle.clearing.specs.Fields.{ClearingField, clearing_field}
 use Rattle.verdict.specs.Verdict.{day_of, prices_of, choice_of, totals_of, statement_length_of, room_stage, stages, verdict, number_of}
-use Rattle.verdict.specs.declared.Outcome.TheVariants.{Accepted, Refused}
 use Rattle.demands.specs.Sentences.{turn, FirstBreach, TooShort}
 use Rattle.demands.proofs.Laws.{refused_is_broken}
 use Rattle.stages.specs.Lists.{Each, Numbers, turn_in, InTurn, broken-++, each_in, each-++, each_so, numbered, placed, in_first, in_second, in_turn_broken}
+use Rattle.std.specs.Prelude.{Ok, Err}
+use Rattle.stages.specs.Stage.{Fault, clean}
 
 -- ==== the numbers of the files, and their places
 
@@ -143,7 +142,7 @@ module _ (d : Day) (p : Prices) (c : Choice) where
     at_its_place = broken_here (stage_of rule) (λ q. q.first) (λ q. q.second) (λ z i. refl) (λ z i. refl)
 
     -- a fault with a rule's number: the rule is broken there first, and those whose turn comes before hold
-    rule_broken : Means (rule_stages d p c) (Broken (number rule) (place row col))
+    rule_broken : Means (rule_stages d p c) (Err (number rule, place row col))
         ↔ (Breaks (stage_of rule) row col × ((r : Rule) → turn r < turn rule → Holds (stage_of r)))
     rule_broken =
         let a = in_turn_broken (turn_in order) 0 (rule_stages d p c) in_order (stage_of rule) (listed d p c rule) (place row col) in (
@@ -161,15 +160,15 @@ module _ (day clearing : List ℕ) (room : ℕ) where
   after_files = ruled ++ (room_stage day room ∷ [])
 
   -- the room's number is 18, and it is refused where it is shorter than the statement
-  room_number : (k : ℕ) (p : Place) → Means (room_stage day room ∷ []) (Broken k p) → 18 ≡ k
+  room_number : (k : ℕ) (p : Place) → Means (room_stage day room ∷ []) (Err (k, p)) → 18 ≡ k
   room_number k p (inl b) = b.number
   room_number k p (inr m) = absurd m.1
 
-  room_lacks : (k : ℕ) (p : Place) → Means (room_stage day room ∷ []) (Broken k p) → room < statement_length_of day
+  room_lacks : (k : ℕ) (p : Place) → Means (room_stage day room ∷ []) (Err (k, p)) → room < statement_length_of day
   room_lacks k p (inl b) = leb-false (statement_length_of day) room b.breaks.fails
   room_lacks k p (inr m) = absurd m.1
 
-  room_broken : room < statement_length_of day → Means (room_stage day room ∷ []) (Broken 18 (place 0 0))
+  room_broken : room < statement_length_of day → Means (room_stage day room ∷ []) (Err (18, place 0 0))
   room_broken l = inl (record {
     row = 0;
     col = 0;
@@ -192,7 +191,7 @@ module _ (day clearing : List ℕ) (room : ℕ) where
       (rule_numbers (day_of day) (prices_of day clearing) (choice_of day clearing)))
       (inl (omega arith, omega arith), tt)
 
-  broken_number : (k : ℕ) (p : Place) → Means (stages day clearing room) (Broken k p) → FromTo 1 8 k ⊎ AfterNumber k
+  broken_number : (k : ℕ) (p : Place) → Means (stages day clearing room) (Err (k, p)) → FromTo 1 8 k ⊎ AfterNumber k
   broken_number k p m =
       ⊎_elim
       (λ b. inl (numbered (FromTo 1 8) (file_stages day clearing) (file_numbers day clearing) k p b))
@@ -200,38 +199,38 @@ module _ (day clearing : List ℕ) (room : ℕ) where
       ((broken-++ (file_stages day clearing) after_files k p).0 m)
 
   -- A refusal has a number from 1 to 8, for the files, or from 11 to 18, or 20 or 21, for the rules and the room.
-  pub refusal_number : (k : ℕ) (p : Place) → verdict day clearing room ≡ Refused k p →
+  pub refusal_number : (k : ℕ) (p : Place) → verdict day clearing room ≡ Err (k, p) →
       ((1 ≤ k) × (k ≤ 8)) ⊎ (((11 ≤ k) × (k ≤ 18)) ⊎ ((20 ≤ k) × (k ≤ 21)))
   refusal_number k p e = broken_number k p ((refused_is_broken day clearing room k p).0 e)
 
   -- The number 0 says that the files are accepted, with their totals.
-  pub zero_is_accepted : number_of (verdict day clearing room) ≡ 0 → verdict day clearing room ≡ Accepted (totals_of day clearing)
+  pub zero_is_accepted : number_of (verdict day clearing room) ≡ 0 → verdict day clearing room ≡ Ok (totals_of day clearing)
   zero_is_accepted = by (first_fault (stages day clearing room)) refl
     where
-      by : (f : Fault) → first_fault (stages day clearing room) ≡ f → number_of (answer (Accepted (totals_of day clearing)) Refused f) ≡ 0 →
-          answer (Accepted (totals_of day clearing)) Refused f ≡ Accepted (totals_of day clearing)
-      by Clean e z = refl
-      by (Broken k p) e z =
-          let n = broken_number k p ((means (stages day clearing room) (Broken k p)).0 e) in
+      by : (f : Fault) → first_fault (stages day clearing room) ≡ f → number_of (answer (Ok (totals_of day clearing)) Err f) ≡ 0 →
+          answer (Ok (totals_of day clearing)) Err f ≡ Ok (totals_of day clearing)
+      by (Ok _) e z = refl
+      by (Err (k, p)) e z =
+          let n = broken_number k p ((means (stages day clearing room) (Err (k, p))).0 e) in
           absurd (⊎_elim (λ l. omega (arith, l.0, z)) (λ a. let l = after_beyond a in omega (arith, l, z)) n)
 
   -- a number beyond 8: both files read without fault, and the fault comes after them
   past_files : (k : ℕ) (p : Place) → 8 < k →
-      (verdict day clearing room ≡ Refused k p) ↔ ((GoodDay day × GoodClearing (counts day) clearing) × Means after_files (Broken k p))
+      (verdict day clearing room ≡ Err (k, p)) ↔ ((GoodDay day × GoodClearing (counts day) clearing) × Means after_files (Err (k, p)))
   past_files k p l =
       Iff.trans (refused_is_broken day clearing room k p)
       (Iff.trans (in_second (file_stages day clearing) after_files k p (FromTo 1 8) (λ h. omega (arith, l, h.1)) (file_numbers day clearing))
       (Iff.and (files_clean day clearing) Iff.rfl))
 
   -- one up to 8: the fault is in the files
-  in_files : (k : ℕ) (p : Place) → k ≤ 8 → (verdict day clearing room ≡ Refused k p) ↔ Means (file_stages day clearing) (Broken k p)
+  in_files : (k : ℕ) (p : Place) → k ≤ 8 → (verdict day clearing room ≡ Err (k, p)) ↔ Means (file_stages day clearing) (Err (k, p))
   in_files k p l =
       Iff.trans (refused_is_broken day clearing room k p)
       (in_first (file_stages day clearing) after_files k p AfterNumber (λ a. let b = after_beyond a in omega (arith, l, b)) after_numbers)
 
   -- A refusal with the number 3: the place names the first field of the day file that fails its test.
   pub refused_by_day_field : (section row field : ℕ) →
-      (verdict day clearing room ≡ Refused 3 (field_place section row field)) ↔ DayField day section row field
+      (verdict day clearing room ≡ Err (3, field_place section row field)) ↔ DayField day section row field
   refused_by_day_field section row field =
       let p = field_place section row field in
       let c = clearing_stages (counts day) clearing in
@@ -241,7 +240,7 @@ module _ (day clearing : List ℕ) (room : ℕ) where
 
   -- One with the number 7: the day file reads without fault, and the place names the first field of the clearing file that fails its test.
   pub refused_by_clearing_field : (section row field : ℕ) →
-      (verdict day clearing room ≡ Refused 7 (field_place section row field)) ↔ (GoodDay day × ClearingField (counts day) clearing section row field)
+      (verdict day clearing room ≡ Err (7, field_place section row field)) ↔ (GoodDay day × ClearingField (counts day) clearing section row field)
   refused_by_clearing_field section row field =
       let p = field_place section row field in
       let c = clearing_stages (counts day) clearing in
@@ -250,7 +249,7 @@ module _ (day clearing : List ℕ) (room : ℕ) where
       (Iff.and (day_clean day) (clearing_field (counts day) clearing section row field)))
 
   -- Every other refusal has 0 for the field.
-  pub field_only : (k : ℕ) (p : Place) → verdict day clearing room ≡ Refused k p → ¬ (k ≡ 3) → ¬ (k ≡ 7) → p.third ≡ 0
+  pub field_only : (k : ℕ) (p : Place) → verdict day clearing room ≡ Err (k, p) → ¬ (k ≡ 3) → ¬ (k ≡ 7) → p.third ≡ 0
   field_only k p e =
       placed FieldOnly (stages day clearing room)
       (each-++ FieldOnlyOf (file_stages day clearing) after_files
@@ -262,7 +261,7 @@ module _ (day clearing : List ℕ) (room : ℕ) where
 
   -- A refusal with a rule's number and a place: the files read, that rule is the first that is broken, and first there.
   pub refused_by_rule : (rule : Rule) (row col : ℕ) →
-      (verdict day clearing room ≡ Refused (number rule) (place row col)) ↔ FirstBreach day clearing rule row col
+      (verdict day clearing room ≡ Err (number rule, place row col)) ↔ FirstBreach day clearing rule row col
   refused_by_rule rule row col =
       let d = day_of day in
       let p = prices_of day clearing in
@@ -303,11 +302,11 @@ module _ (day clearing : List ℕ) (room : ℕ) where
       )
 
   -- A refusal with the number 18: the files read, every rule holds, and the room is shorter than the statement.
-  pub too_short : (p : Place) → verdict day clearing room ≡ Refused 18 p → TooShort day clearing room
+  pub too_short : (p : Place) → verdict day clearing room ≡ Err (18, p) → TooShort day clearing room
   too_short p e =
       let m = (past_files 18 p (omega arith)).0 e in
       let numbers = rule_numbers (day_of day) (prices_of day clearing) (choice_of day clearing) in
-      let h : Means ruled Clean × Means (room_stage day room ∷ []) (Broken 18 p) = ⊎_elim
+      let h : Means ruled clean × Means (room_stage day room ∷ []) (Err (18, p)) = ⊎_elim
       (λ b. absurd (not_the_room (numbered RuleNumber ruled numbers 18 p b) refl))
       (λ b. b)
       ((broken-++ ruled (room_stage day room ∷ []) 18 p).0 m.1) in
@@ -318,7 +317,7 @@ module _ (day clearing : List ℕ) (room : ℕ) where
         room_lacks = room_lacks 18 p h.1;
       }
 
-  pub refused_by_room : (verdict day clearing room ≡ Refused 18 (place 0 0)) ↔ TooShort day clearing room
+  pub refused_by_room : (verdict day clearing room ≡ Err (18, place 0 0)) ↔ TooShort day clearing room
   refused_by_room = (
     too_short (place 0 0),
     λ s.

@@ -53,10 +53,10 @@ module _ (day clearing : List ℕ) (totals : List ℤ) where
 
 module _ (day : List ℕ) (section : ℕ) (found : List ℕ) where
   abbrev pub look_up_number : ℕ
-  look_up_number = for_length 3 found (answer 0 (λ k p. k) (first_fault (look_up_stages section day))) wrong_length
+  look_up_number = for_length 3 found (answer 0 (λ r. r.0) (first_fault (look_up_stages section day))) wrong_length
 
   abbrev pub look_up_found : List ℕ
   look_up_found =
       for_length 3 found
-      (answer (three (look_up_at section day) (length (look_up section day)) 0) (λ k p. place_three p) (first_fault (look_up_stages section day)))
+      (answer (three (look_up_at section day) (length (look_up section day)) 0) (λ r. place_three r.1) (first_fault (look_up_stages section day)))
       found

@@ -7,32 +7,28 @@ ghost use Rattle.verdict.specs.Verdict.{number_of, place_of};
 ghost use Rattle.embed.specs.Surface.{three, six, check_number, check_place, check_room, totals_number, totals_out, look_up_number, look_up_found};
 
 use market::Totals;
-use stages::{Fault, Place};
-use verdict::Outcome;
+use stages::{Place, Refusal};
 
+// Numbers and lent buffers of a length, here and below, since that is what C takes.
 const WRONG_LENGTH: u8 = 255;
 
 // ---- what an outcome says, as numbers in lent buffers
 
-fn number_of(outcome: Outcome) -> u8
-    ensures { result ≡ number_of outcome }
+fn number_of(outcome: &Result<Totals, Refusal>) -> u8
+    ensures { result ≡ number_of outcome.now }
 {
     match outcome {
-        Outcome::Accepted(_) => 0,
-        Outcome::Refused(number, _) => number,
+        Ok(_) => 0,
+        Err(refusal) => refusal.number(),
     }
 }
 
-fn place_of(outcome: Outcome) -> Place
-    ensures { result ≡ place_of outcome }
+fn place_of(outcome: &Result<Totals, Refusal>) -> Place
+    ensures { result ≡ place_of outcome.now }
 {
     match outcome {
-        Outcome::Accepted(_) => Place {
-            first: 0,
-            second: 0,
-            third: 0,
-        },
-        Outcome::Refused(_, place) => place,
+        Ok(_) => Place::new(0, 0),
+        Err(refusal) => refusal.place(),
     }
 }
 
@@ -40,27 +36,14 @@ fn put_three(out: &mut [usize], first: usize, second: usize, third: usize)
     requires { length out.old ≡ 3 }
     ensures { out.new ≡ three first second third }
 {
-    out[0] = first;
-    out[1] = second;
-    out[2] = third;
+    out.copy_from_slice(&[first, second, third]);
 }
 
 fn put_totals(out: &mut [i64], t: Totals)
     requires { length out.old ≡ 6 }
     ensures { out.new ≡ six t }
 {
-    let value = t.value;
-    let buyers = t.buyers;
-    let sellers = t.sellers;
-    let rent = t.rent;
-    let traded = t.traded;
-    let shortfall = t.shortfall;
-    out[0] = value;
-    out[1] = buyers;
-    out[2] = sellers;
-    out[3] = rent;
-    out[4] = traded;
-    out[5] = shortfall;
+    out.copy_from_slice(&[t.value, t.buyers, t.sellers, t.rent, t.traded, t.shortfall]);
 }
 
 // ---- the functions
@@ -81,9 +64,9 @@ pub extern "C" fn ayinzhad_check(
         return WRONG_LENGTH;
     }
     let outcome = verdict::check(day, clearing, room);
-    let at = place_of(outcome);
+    let at = place_of(&outcome);
     put_three(place, at.first, at.second, at.third);
-    number_of(outcome)
+    number_of(&outcome)
 }
 
 // The six totals, zeros for a refusal, and the verdict's number, in a room that every statement fits.
@@ -97,8 +80,9 @@ pub extern "C" fn ayinzhad_totals(day: &[u8], clearing: &[u8], totals: &mut [i64
     }
     let mut room = [0u8; 852];
     let outcome = verdict::check(day, clearing, &mut room);
+    let number = number_of(&outcome);
     put_totals(totals, verdict::given_totals(outcome));
-    number_of(outcome)
+    number
 }
 
 // Where the rows of a section start in the day file and how many bytes they are; or the number and the place of the refusal.
@@ -111,11 +95,7 @@ pub extern "C" fn ayinzhad_look_up(day: &[u8], section: usize, found: &mut [usiz
         return WRONG_LENGTH;
     }
     match lookup::look_up_fault(day, section) {
-        Fault::Broken(number, place) => {
-            put_three(found, place.first, place.second, place.third);
-            number
-        }
-        Fault::Clean => {
+        Ok(()) => {
             put_three(
                 found,
                 lookup::look_up_start(day, section),
@@ -123,6 +103,11 @@ pub extern "C" fn ayinzhad_look_up(day: &[u8], section: usize, found: &mut [usiz
                 0,
             );
             0
+        }
+        Err(refusal) => {
+            let place = refusal.place();
+            put_three(found, place.first, place.second, place.third);
+            refusal.number()
         }
     }
 }

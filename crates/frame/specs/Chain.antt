@@ -2,14 +2,12 @@
 use Rattle.std.specs.Prelude.{ℕ, ◌+◌, ◌*◌, ◌≤◌, ◌≡◌, List, length}
 use Rattle.std.proofs.Common.{arith, sym, subst, ap, ◌∙◌}
 use Rattle.stages.proofs.StageLaws.{means}
-use Rattle.stages.specs.declared.Fault.TheVariants.{Clean}
 use Rattle.limits.specs.Limits.{most_periods, most_zones, most_lines, most_steps, most_blocks}
 use Rattle.sections.specs.Section.{count, after}
-use Rattle.sections.specs.Answer.{Read, head_of, head_read, head_same, section_read, section_fault, fault_of}
+use Rattle.sections.specs.Answer.{Read, head_of, head_read, head_same, section_read, section_fault, reading_of}
 use Rattle.sections.specs.Good.{Head, head}
 use Rattle.sections.proofs.GoodLaws.{section_clean}
-use Rattle.sections.specs.declared.Section.{Section}
-use Rattle.sections.specs.declared.Section.TheVariants.{Rows, CutOff, Beyond, BadRow}
+use Rattle.sections.specs.declared.SectionFault.{SectionFault}
 use Rattle.rows.specs.Rows.{row_size, field_count, field_ok}
 use Rattle.rows.specs.declared.Kind.{Kind}
 use Rattle.rows.specs.declared.Kind.TheVariants.{Periods, Zones, Lines, Steps, Blocks, Prices, Flows, Volumes, Ratios}
@@ -21,29 +19,20 @@ use Rattle.day.specs.declared.Counts.{Counts}
 use Rattle.day.specs.Frame.{framed_limits}
 use Rattle.clearing.specs.Frame.{AskedRows}
 use Rattle.parts.specs.Of.{OfDay}
-use Rattle.frame.specs.Opened.{Opened, Says}
-use Rattle.frame.specs.declared.Count.{Count}
-use Rattle.frame.specs.declared.Count.TheVariants.{Of, Unsure}
-use Rattle.frame.specs.declared.Frame.{Frame}
-use Rattle.frame.specs.declared.Frame.TheVariants.{Framed, Doubt}
+use Rattle.frame.specs.Opened.{Opened}
+use Rattle.std.specs.Prelude.{Option, Some, Result, Ok, Err}
+use Rattle.stages.specs.Stage.{clean, fault_of}
+use Rattle.std.specs.Result.{result_ok}
 
 -- ---- one section
 
-abbrev pub count_of : Section → Count
-count_of (Rows n) = Of n
-count_of CutOff = Unsure
-count_of Beyond = Unsure
-count_of (BadRow i f) = Unsure
-
 -- where a reader is sure of a section with rows of this size, it is found good, and has so many rows, which lie within the part
-pub record Counted (good : Type 0) (size : ℕ) (part : List ℕ) (x : Count) : Type 0 where
-  pub sure : (n : ℕ) → x ≡ Of n → good × ((count part ≡ n) × (2 + size * n ≤ length part))
+pub record Counted (good : Type 0) (size : ℕ) (part : List ℕ) (x : Option ℕ) : Type 0 where
+  pub sure : (n : ℕ) → x ≡ Some n → good × ((count part ≡ n) × (2 + size * n ≤ length part))
 
-rows_of : (x : Section) (n : ℕ) → count_of x ≡ Of n → x ≡ Rows n
-rows_of (Rows m) n e = cc
-rows_of CutOff n e = let z : ◌≡◌ {A = ℕ} 0 1 = cc in absurd (omega arith)
-rows_of Beyond n e = let z : ◌≡◌ {A = ℕ} 0 1 = cc in absurd (omega arith)
-rows_of (BadRow i f) n e = let z : ◌≡◌ {A = ℕ} 0 1 = cc in absurd (omega arith)
+rows_of : (x : Result ℕ SectionFault) (n : ℕ) → result_ok x ≡ Some n → x ≡ Ok n
+rows_of (Ok m) n e = cc
+rows_of (Err f) n e = let z : ◌≡◌ {A = ℕ} 0 1 = cc in absurd (omega arith)
 
 -- its head alone
 read_is : (least most size : ℕ) (part : List ℕ) (n : ℕ) → Read least most size part n → Head least most size part
@@ -51,7 +40,7 @@ read_is least most size part n r =
     let m = r.counted in
     record { counted = omega (arith, r.room); at_least = rw m r.least_is; at_most = rw m r.most_is; room = rw m r.room }
 
-pub head_counted : (least most : ℕ) (part : List ℕ) (x : Section) {y : Count} {size size' : ℕ} → y ≡ count_of x → size ≡ size' →
+pub head_counted : (least most : ℕ) (part : List ℕ) (x : Result ℕ SectionFault) {y : Option ℕ} {size size' : ℕ} → y ≡ result_ok x → size ≡ size' →
     x ≡ head_of least most size part → Counted (Head least most size' part) size' part y
 head_counted least most part x {size' = size} c s e = record {
   sure = λ n q.
@@ -60,7 +49,7 @@ head_counted least most part x {size' = size} c s e = record {
 }
 
 -- its rows too
-pub rows_counted : (kind : Kind) (least most periods zones : ℕ) (part : List ℕ) (x : Section) {y : Count} → y ≡ count_of x →
+pub rows_counted : (kind : Kind) (least most periods zones : ℕ) (part : List ℕ) (x : Result ℕ SectionFault) {y : Option ℕ} → y ≡ result_ok x →
     x ≡ rows_at kind least most periods zones part → Counted (GoodRows kind least most periods zones part) (row_size kind periods) part y
 rows_counted kind least most periods zones part x c e = record {
   sure = λ n q.
@@ -70,27 +59,18 @@ rows_counted kind least most periods zones part x c e = record {
       let m = sym e ∙ rows_of x n (sym c ∙ q) in
       let r = section_read least most size fields ok part n m in
       let stages = file_section day_numbers 0 kind least most periods zones part in
-      let clean = section_fault day_numbers 0 least most size fields ok part ∙ ap (fault_of day_numbers 0) m in
-      ((section_clean day_numbers 0 least most size fields ok part).0 ((means stages Clean).0 clean), (r.counted, r.room));
+      let none = section_fault day_numbers 0 least most size fields ok part ∙ ap (λ (x : Result ℕ SectionFault). fault_of (reading_of day_numbers 0 x)) m in
+      ((section_clean day_numbers 0 least most size fields ok part).0 ((means stages clean).0 none), (r.counted, r.room));
 }
 
 -- ---- from a section on
 
--- what a sure answer says of its counts
-abbrev pub Surely : (Counts → Type 0) → Frame → Type 0
-Surely says (Framed c) = says c
-Surely says Doubt = Unit
-
-pub sure_of : (says : Counts → Type 0) {r : Frame} {c : Counts} → Surely says r → r ≡ Framed c → says c
-sure_of says h e = subst (Surely says) e h
-
 -- what is left of the file is handed on; `next` is what is then known, by the section's count and what is left
-pub handed_on : (next : ℕ → List ℕ → Counts → Type 0) (r : Frame) {good : Type 0} {size n : ℕ} {part left : List ℕ} {x : Count} →
-    Counted good size part x → x ≡ Of n → left ≡ after size part → Surely (next n left) r → Surely (λ c. good × next (count part) (after size part) c) r
-handed_on next (Framed c) {size = size} {n = n} {part = part} h e l k =
+pub handed_on : (next : ℕ → List ℕ → Type 0) {good : Type 0} {size n : ℕ} {part left : List ℕ} {x : Option ℕ} →
+    Counted good size part x → x ≡ Some n → left ≡ after size part → next n left → good × next (count part) (after size part)
+handed_on next {size = size} {n = n} {part = part} h e l k =
     let f = h.sure n e in
-    (f.0, subst (λ (m : ℕ). next m (after size part) c) (sym f.1.0) (subst (λ (s : List ℕ). next n s c) l k))
-handed_on next Doubt h e l k = tt
+    (f.0, subst (λ (m : ℕ). next m (after size part)) (sym f.1.0) (subst (next n) l k))
 
 -- ---- the two chains
 
@@ -140,8 +120,8 @@ of_day day c (p, (z, (l, (s, (b, (counted, ended)))))) = record {
 pub in_limits : (day : List ℕ) (c : Counts) → FromPeriods day c → InLimits c
 in_limits day c d = let o = of_day day c d in subst InLimits o.counted (framed_limits o.framed)
 
-pub opened : (day clearing : List ℕ) (c : Counts) (r : Frame) → FromPeriods day c → Surely (FromPrices c clearing) r → Says day clearing r
-opened day clearing c (Framed k) d (p, (f, (v, (r, (same, ended))))) =
+pub opened : (day clearing : List ℕ) (c k : Counts) → FromPeriods day c → FromPrices c clearing k → Opened day clearing k
+opened day clearing c k d (p, (f, (v, (r, (same, ended))))) =
     subst (Opened day clearing) same (record {
       framed = record {
         of_day = of_day day c d;
@@ -153,4 +133,3 @@ opened day clearing c (Framed k) d (p, (f, (v, (r, (same, ended))))) =
       periods_good = d.0;
       zones_good = d.1.0;
     })
-opened day clearing c Doubt d s = tt

@@ -6,15 +6,8 @@ use Rattle.reader.specs.Reader.{GoodRows}
 use Rattle.day.specs.Day.{periods, zones_part}
 use Rattle.day.specs.declared.Counts.{Counts}
 use Rattle.book.specs.Framed.{Framed}
-use Rattle.frame.specs.declared.Frame.{Frame}
-use Rattle.frame.specs.declared.Frame.TheVariants.{Framed as Sure, Doubt}
 
 pub record Opened (day clearing : List ℕ) (c : Counts) : Type 0 where
   pub framed : Framed day clearing c
   pub periods_good : GoodRows Periods 1 most_periods 0 0 day
   pub zones_good : GoodRows Zones 1 most_zones (periods day) 0 (zones_part day)
-
--- what an answer says: a doubt says nothing
-abbrev pub Says : List ℕ → List ℕ → Frame → Type 0
-Says day clearing (Sure c) = Opened day clearing c
-Says day clearing Doubt = Unit

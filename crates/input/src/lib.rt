@@ -1,46 +1,39 @@
 // Files read to their end, or as far as a buffer goes.
 #![tactic(auto)]
 
-ghost use Rattle.std.specs.Prelude.{◌≡◌, length, take};
-ghost use Rattle.std.specs.Io.KnownBytes.{Consumes};
-ghost use Rattle.input.specs.Within.{IsPrefixLen, Takes, TakesSome, Within};
+ghost use Rattle.std.specs.Prelude.{◌≡◌, ◌<◌, length, take, OnOk};
+ghost use Rattle.std.specs.Io.KnownBytes.{Consumes, IsAtEnd};
+ghost use Rattle.input.specs.Within.{IsPrefixLen, Takes, Within};
 
+use std::io;
 use std::io::Read;
 
-// How many bytes of a file stand at the front of a buffer; or a read failed.
-#[derive(Clone, Copy)]
-pub enum Reading {
-    Held(usize),
-    Failed,
-}
-
-// One read: no bytes where the file has ended.
-fn read_some<R: Read>(file: &mut R, rest: &mut [u8]) -> Reading
-    ensures within { Within result (length rest.old) }
-    ensures bytes { TakesSome result (R.remaining file.old) (R.remaining file.new) rest.new }
+// Reads until the buffer is full, the file has ended or a read fails. Gives how many bytes came, and whether a read failed.
+fn fill<R: Read>(file: &mut R, buf: &mut [u8]) -> (usize, io::Result<()>)
+    ensures within { IsPrefixLen result.0 buf.new }
+    ensures bytes { Consumes (R.remaining file.old) (R.remaining file.new) (take result.0 buf.new) }
+    ensures end { OnOk result.1 (result.0 < length buf.new → IsAtEnd (R.remaining file.new)) }
 {
-    match file.read(rest) {
-        Ok(got) => Reading::Held(got),
-        Err(_) => Reading::Failed,
+    let mut held = 0;
+    // No `for`: it goes on by as many as came.
+    while held < buf.len() {
+        match file.read(&mut buf[held..]) {
+            Ok(0) => return (held, Ok(())),
+            Ok(more) => held += more,
+            Err(e) => return (held, Err(e)),
+        }
     }
+    (held, Ok(()))
 }
 
-// Reads until the buffer is full or the file has ended.
-pub fn read<R: Read>(file: &mut R, buf: &mut [u8]) -> Reading
+// Reads until the buffer is full or the file has ended. Gives how many bytes came.
+pub fn read<R: Read>(file: &mut R, buf: &mut [u8]) -> io::Result<usize>
     ensures within { Within result (length buf.old) }
     ensures bytes { Takes result (R.remaining file.old) (R.remaining file.new) buf.new }
 {
-    let mut done = 0;
-    while done < buf.len() {
-        let Reading::Held(more) = read_some(file, &mut buf[done..]) else {
-            return Reading::Failed;
-        };
-        if more == 0 {
-            return Reading::Held(done);
-        }
-        done = done + more;
-    }
-    Reading::Held(done)
+    let (held, end) = fill(file, buf);
+    end?;
+    Ok(held)
 }
 
 // Reads as far too, and stops where a read fails. Gives how many bytes came.
@@ -48,29 +41,20 @@ pub fn read_full<R: Read>(file: &mut R, buf: &mut [u8]) -> usize
     ensures within { IsPrefixLen result buf.new }
     ensures bytes { Consumes (R.remaining file.old) (R.remaining file.new) (take result buf.new) }
 {
-    let mut held = 0;
-    while held < buf.len() {
-        let Reading::Held(more) = read_some(file, &mut buf[held..]) else {
-            return held;
-        };
-        if more == 0 {
-            return held;
-        }
-        held = held + more;
-    }
-    held
+    fill(file, buf).0
 }
 
 // ---- the front of a buffer: n bytes, or all where there are fewer
 
-pub fn front<'a>(buf: &'a [u8], n: usize) -> &'a [u8]
+pub fn front(buf: &[u8], n: usize) -> &[u8]
     ensures { result.now ≡ take n buf.now }
 {
-    if n < buf.len() { &buf[..n] } else { buf }
+    &buf[..n.min(buf.len())]
 }
 
-pub fn front_mut<'a>(buf: &'a mut [u8], n: usize) -> &'a mut [u8]
+pub fn front_mut(buf: &mut [u8], n: usize) -> &mut [u8]
     ensures { result.now ≡ take n buf.old }
 {
-    if n < buf.len() { &mut buf[..n] } else { buf }
+    let end = n.min(buf.len());
+    &mut buf[..end]
 }

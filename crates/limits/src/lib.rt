@@ -1,13 +1,11 @@
 // The limits, and the rules of the day file's rows over the values of their fields: which field is the first to fail its test.
 #![tactic(auto)]
 
-ghost use Rattle.std.specs.Prelude.{◌≡◌, ◌&&◌, [], ◌∷◌, length};
+ghost use Rattle.std.specs.Prelude.{◌≡◌, ◌&&◌, [], ◌∷◌, length, not, position};
 ghost use Rattle.std.specs.Int.Signed.{le_z};
 ghost use Rattle.stages.specs.First.{first_bad};
 ghost use Rattle.limits.specs.Fields.{only};
 ghost use Rattle.limits.specs.Rules.{period_rule, zone_rule, ends_rule, step_rule, block_rule};
-
-use stages::Found;
 
 pub const PRICE_LEAST: i64 = -1000000;
 
@@ -39,46 +37,43 @@ pub fn between(x: i64, least: i64, most: i64) -> bool
 
 // ---- the first field that fails its test
 
-fn first_failing(tests: &[bool]) -> Found
+fn first_false(tests: &[bool]) -> Option<usize>
+    ensures { result ≡ position not tests.now }
+{
+    tests.iter().position(|ok| !ok)
+}
+
+fn first_failing(tests: &[bool]) -> Option<usize>
     ensures { result ≡ first_bad (length tests.now) (only tests.now) }
 {
-    for f in 0..tests.len() {
-        if !tests[f] {
-            return Found::At(f);
-        }
-    }
-    Found::Nothing
+    first_false(tests)
 }
 
-pub fn one_field(ok: bool) -> Found
+pub fn one_field(ok: bool) -> Option<usize>
     ensures { result ≡ first_bad 1 (only (ok ∷ [])) }
 {
-    let tests = [ok];
-    first_failing(&tests)
+    first_failing(&[ok])
 }
 
-pub fn period_field(floor: i64, ceiling: i64) -> Found
+pub fn period_field(floor: i64, ceiling: i64) -> Option<usize>
     ensures { result ≡ first_bad 2 (only (period_rule floor ceiling)) }
 {
-    let tests = [
+    first_failing(&[
         (PRICE_LEAST <= floor) & (floor <= PRICE_MOST),
         ((PRICE_LEAST <= ceiling) & (ceiling <= PRICE_MOST)) & (floor <= ceiling),
-    ];
-    first_failing(&tests)
+    ])
 }
 
-pub fn zone_field(before: usize, code: usize) -> Found
+pub fn zone_field(before: usize, code: usize) -> Option<usize>
     ensures { result ≡ first_bad 1 (only (zone_rule before code)) }
 {
-    let tests = [(1 <= code) & (before < code)];
-    first_failing(&tests)
+    first_failing(&[(1 <= code) & (before < code)])
 }
 
-pub fn ends_field(zones: usize, from: usize, to: usize) -> Found
+pub fn ends_field(zones: usize, from: usize, to: usize) -> Option<usize>
     ensures { result ≡ first_bad 2 (only (ends_rule zones from to)) }
 {
-    let tests = [from < zones, (to < zones) & (to != from)];
-    first_failing(&tests)
+    first_failing(&[from < zones, (to < zones) & (to != from)])
 }
 
 pub fn step_field(
@@ -90,28 +85,32 @@ pub fn step_field(
     spare: usize,
     price: i64,
     quantity: u32,
-) -> Found
+) -> Option<usize>
     ensures { result ≡ first_bad 6 (only (step_rule zones periods zone period side spare price quantity)) }
 {
-    let tests = [
+    first_failing(&[
         zone < zones,
         period < periods,
         side <= 1,
         spare == 0,
         (PRICE_LEAST <= price) & (price <= PRICE_MOST),
         (1 <= quantity) & (quantity <= VOLUME_MOST),
-    ];
-    first_failing(&tests)
+    ])
 }
 
-pub fn block_field(zones: usize, zone: usize, side: usize, least: usize, price: i64) -> Found
+pub fn block_field(
+    zones: usize,
+    zone: usize,
+    side: usize,
+    least: usize,
+    price: i64,
+) -> Option<usize>
     ensures { result ≡ first_bad 4 (only (block_rule zones zone side least price)) }
 {
-    let tests = [
+    first_failing(&[
         zone < zones,
         side <= 1,
         least <= RATIO_MOST,
         (PRICE_LEAST <= price) & (price <= PRICE_MOST),
-    ];
-    first_failing(&tests)
+    ])
 }

@@ -5,13 +5,14 @@ use Rattle.std.proofs.Common.{eq-or-lt_of_le, le_antisymm, arith, sym, ap, ◌�
 use Rattle.std.proofs.Math.Nat.{le_trans}
 use Rattle.std.specs.Int.{w64}
 use Rattle.std.proofs.lemmas.Int.{to_z-of_z}
-use Rattle.whole.specs.Whole as whole
 use Rattle.whole.specs.Whole.{◌≼◌, ◌≺◌, sum, at}
 use Rattle.whole.specs.Ring.{le_z_true, le_z_false, ≼_refl, ≼_trans, ≼_of_<, neg_anti, pos-≼}
 use Rattle.whole.proofs.Sums.{at_same, at_other, sum_next, sum_zero, sum_only}
 use Rattle.whole.proofs.Size.{abs_le, abs_neg, abs-+, abs--, abs-*-≤, at_size, sum_within, fits_i64}
 use Rattle.stages.specs.First.{both, apart, ltb_is, eqb_is, not_is}
-use Rattle.cells.specs.Cells.{added, Gained, Within, rent, nothing_gained, gained_at, gained_then, gained_same, within_gained, cell_below}
+use Rattle.cells.specs.Gains.{nothing, all, SumsWithin, SumsGained, nothing_within, within_more, all_within, no_gain, gained_next, within_gained as within_gain, more_fits, more_is}
+use Rattle.cells.specs.declared.Sums.{Sums}
+use Rattle.cells.specs.Cells.{added, Gained, Within, nothing_gained, gained_at, gained_then, gained_same, within_gained, cell_below}
 use Rattle.limits.specs.Limits.{most_periods, most_lines, most_price, most_flow, most_volume}
 use Rattle.market.specs.Market.{rent_at}
 use Rattle.market.specs.Rules.{test, line_ok}
@@ -89,14 +90,15 @@ two_ends a b period x z h = by (eqb z a) (eqb z b) (eqb h period)
     by false true false = refl
     by false false false = refl
 
-module _ {c : Counts} {ends : Line} {period : ℕ} {flow : ℤ} {table : List ℤ} (k : Carries c ends period flow table) where
+module _ {c : Counts} {ends : Line} {period : ℕ} {flow : ℤ} {table : List ℤ} (k : Carries c ends period flow table)
+    (long : length table ≡ 200) where
   pub cell_is : {zone : ℕ} → zone < c.zones → zone * c.periods + period < 200
   cell_is l = cell_below (prices_most k.limits) l k.period_is
 
   -- a store asks that the cell is there and the sum fits
   pub from_fits : {cell : ℕ} {x : ℤ} → cell ≡ ends.from * c.periods + period → x ≡ flow →
       (cell < length table) × SFits w64 (get_or table cell (pos 0) +ℤ x)
-  from_fits e q = rw (e, q, k.long) (
+  from_fits e q = rw (e, q, long) (
     cell_is k.from_is,
     fits_i64 _ (omega (arith, k.room _ _ k.from_is k.period_is, k.small, abs-+ (get_or table (ends.from * c.periods + period) (pos 0)) flow)),
   )
@@ -105,14 +107,14 @@ module _ {c : Counts} {ends : Line} {period : ℕ} {flow : ℤ} {table : List �
   module _ {left : ℕ} {x : ℤ} {after : List ℤ} (e : left ≡ ends.from * c.periods + period) (q : x ≡ flow)
       (a : after ≡ added table left x) where
     from_gained : Gained c.zones c.periods (λ z h. at ends.from (at period flow h) z) table after
-    from_gained = rw (a, e, q) (gained_at ends.from period (rw k.long (cell_is k.from_is)) k.period_is flow)
+    from_gained = rw (a, e, q) (gained_at ends.from period (rw long (cell_is k.from_is)) k.period_is flow)
 
     pub to_fits : {cell : ℕ} {y : ℤ} → cell ≡ ends.to * c.periods + period → y ≡ neg_ℤ flow →
         (cell < length after) × SFits w64 (get_or after cell (pos 0) +ℤ y)
     to_fits f o =
         let room = within_gained from_gained {more = most_flow} k.room
         (λ z h _ _. le_trans (at_size ends.from (at period flow h) z) (le_trans (at_size period flow h) k.small)) in
-        rw (f, o, from_gained.long, k.long) (
+        rw (f, o, from_gained.long, long) (
           cell_is k.to_is,
           fits_i64 _
               (omega (
@@ -127,7 +129,7 @@ module _ {c : Counts} {ends : Line} {period : ℕ} {flow : ℤ} {table : List �
     pub both_gained : {cell : ℕ} {y : ℤ} {end : List ℤ} → cell ≡ ends.to * c.periods + period → y ≡ neg_ℤ flow → end ≡ added after cell y →
         Gained c.zones c.periods (carried ends period flow) table end
     both_gained f o b =
-        let there : ends.to * c.periods + period < length after = rw (from_gained.long, k.long) (cell_is k.to_is) in
+        let there : ends.to * c.periods + period < length after = rw (from_gained.long, long) (cell_is k.to_is) in
         gained_same (gained_then from_gained (rw (b, f, o) (gained_at ends.to period there k.period_is (neg_ℤ flow))))
         (λ z h _ _. two_ends ends.from ends.to period flow z h)
 
@@ -151,34 +153,31 @@ rent_small : (flow from to : ℤ) → nat_abs flow ≤ most_flow → nat_abs fro
     nat_abs (flow *ℤ (to -ℤ from)) ≤ 2000000000000
 rent_small flow from to f a b = abs-*-≤ flow (to -ℤ from) 1000000 2000000 f (omega (arith, abs-- to from, a, b))
 
--- a rent is stored among the five sums
-rent_gained : (sums : List ℤ) (x : ℤ) → length sums ≡ 5 → Gained 1 5 (λ _ k. at rent x k) sums (added sums rent x)
-rent_gained sums x long = gained_same (gained_at 0 rent (rw long (omega arith)) (omega arith) x)
-    (λ z k l _. let e : z ≡ 0 = omega arith in rw (e, at_same))
+-- a rent is more in one of the sums
+rent_gained : (sums : Sums) (x : ℤ) → SumsGained (record nothing { rent = x }) sums (record sums { rent = sums.rent +ℤ x })
+rent_gained sums x =
+    let same : SumsGained nothing sums sums = no_gain in
+    record { buyers = same.buyers; sellers = same.sellers; rent = refl; traded = same.traded; shortfall = same.shortfall }
 
-module _ {c : Counts} {clearing : List ℕ} {l h : ℕ} {ends : Line} {flows sums : List ℤ} (a : FlowAsks c clearing l h ends flows sums) where
+module _ {c : Counts} {clearing : List ℕ} {l h : ℕ} {ends : Line} {flows : List ℤ} {sums : Sums} (a : FlowAsks c clearing l h ends flows sums) where
   -- with the numbers that are read
   module _ {forward back : ℕ} {from to flow : ℤ} (f : flow ≡ flow_of c clearing l h) (p : from ≡ prices_of c clearing ends.from h)
       (q : to ≡ prices_of c clearing ends.to h) (s : FlowSure forward back from to flow) where
-    -- what the rent asks, what storing it asks, and what storing the flow asks
+    -- what the rent asks, what adding it asks and makes, and what storing the flow asks
     pub rent_asks : (nat_abs flow ≤ most_flow) × ((nat_abs from ≤ most_price) × (nat_abs to ≤ most_price))
     rent_asks = (
       flow_small (sure_flow s),
       (rw p (a.prices ends.from h a.from_is a.period_is), rw q (a.prices ends.to h a.to_is a.period_is)),
     )
 
-    pub rent_fits : {x : ℤ} → x ≡ flow *ℤ (to -ℤ from) → (rent < length sums) × SFits w64 (get_or sums rent (pos 0) +ℤ x)
-    rent_fits e =
-        let g = rent_asks in
-        rw (e, a.sums_long) (
-          omega arith,
-          fits_i64 _ (omega (
-            arith,
-            a.sums_room 0 rent (omega arith) (omega arith),
-            rent_small flow from to g.0 g.1.0 g.1.1,
-            abs-+ (get_or sums rent (pos 0)) (flow *ℤ (to -ℤ from)),
-          )),
-        )
+    rent_near : nat_abs (flow *ℤ (to -ℤ from)) ≤ 2000000000000
+    rent_near = rent_small flow from to rent_asks.0 rent_asks.1.0 rent_asks.1.1
+
+    pub rent_fits : {x : ℤ} → x ≡ flow *ℤ (to -ℤ from) → SFits w64 (to_z w64 (of_z w64 sums.rent) +ℤ x)
+    rent_fits e = rw e (more_fits sums.rent (flow *ℤ (to -ℤ from)) a.sums_room.rent rent_near (omega arith))
+
+    pub rent_is : {x : ℤ} → x ≡ flow *ℤ (to -ℤ from) → to_z w64 (of_z w64 (to_z w64 (of_z w64 sums.rent) +ℤ x)) ≡ sums.rent +ℤ x
+    rent_is e = rw e (more_is sums.rent (flow *ℤ (to -ℤ from)) a.sums_room.rent rent_near (omega arith))
 
     pub flow_carries : Carries c ends h flow flows
     flow_carries = record {
@@ -187,16 +186,15 @@ module _ {c : Counts} {clearing : List ℕ} {l h : ℕ} {ends : Line} {flows sum
       to_is = a.to_is;
       period_is = a.period_is;
       small = rent_asks.0;
-      long = a.flows_long;
       room = a.flows_room;
     }
 
-    pub flow_counted : {x : ℤ} {sums₁ flows₁ : List ℤ} → x ≡ flow *ℤ (to -ℤ from) → sums₁ ≡ added sums rent x →
+    pub flow_counted : {x : ℤ} {sums₁ : Sums} {flows₁ : List ℤ} → x ≡ flow *ℤ (to -ℤ from) → sums₁ ≡ record sums { rent = sums.rent +ℤ x } →
         Gained c.zones c.periods (carried ends h flow) flows flows₁ → FlowCounted c clearing l h ends forward back flows flows₁ sums sums₁
     flow_counted e b g = record {
       sure = rw (f, p, q) at s;
       flows = rw f at g;
-      sums = rw (b, e, f, p, q) (rent_gained sums (rent_of c clearing ends l h) a.sums_long);
+      sums = rw (b, e, f, p, q) (rent_gained sums (rent_of c clearing ends l h));
     }
 
 -- ---- a sum gathered in a table, term by term
@@ -228,10 +226,11 @@ ends_sure {c} {part} {at} e t =
     record { from_is = g.0.0; to_is = g.0.1; different = g.1 }
 
 module _ {c : Counts} {clearing part : List ℕ} {at l : ℕ} where
-  pub no_period : {flows sums : List ℤ} → PeriodsCounted c clearing part at l 0 flows flows sums sums
-  no_period = record { within = omega arith; sure = none_below; flows = none_gathered; sums = none_gathered }
+  pub no_period : {flows : List ℤ} {sums : Sums} → PeriodsCounted c clearing part at l 0 flows flows sums sums
+  unfolding sum
+  no_period = record { within = omega arith; sure = none_below; flows = none_gathered; sums = no_gain }
 
-  module _ {n : ℕ} {flows₀ flows₁ sums₀ sums₁ : List ℤ} (g : EndsSure c part at)
+  module _ {n : ℕ} {flows₀ flows₁ : List ℤ} {sums₀ sums₁ : Sums} (g : EndsSure c part at)
       (p : PeriodsCounted c clearing part at l n flows₀ flows₁ sums₀ sums₁) where
     pub line_counted : c.periods ≤ n → LineCounted c clearing part at l flows₀ flows₁ sums₀ sums₁
     line_counted m =
@@ -256,13 +255,18 @@ module _ {c : Counts} {clearing part : List ℕ} {at l : ℕ} where
       carried_within h i z k _ _ =
           le_trans (at_size h _ k) (net_flow_size (from part at) (to part at) z (flow_of c clearing l h) (flow_within h i))
 
-      rent_within : (h : ℕ) → h < n → (z k : ℕ) → z < 1 → k < 5 →
-          nat_abs (whole.at rent (rent_of c clearing (line_at part at) l h) k) ≤ 2000000000000
-      rent_within h i z k _ _ =
+      rent_within : (h : ℕ) → h < n → SumsWithin 2000000000000 (record nothing { rent = rent_of c clearing (line_at part at) l h })
+      rent_within h i =
           let j : h < c.periods = omega (arith, p.within) in
-          le_trans (at_size rent (rent_of c clearing (line_at part at) l h) k)
-          (rent_small (flow_of c clearing l h) (prices_of c clearing (from part at) h) (prices_of c clearing (to part at) h) (flow_within h i)
-          (a.prices (from part at) h g.from_is j) (a.prices (to part at) h g.to_is j))
+          let none = nothing_within 2000000000000 in
+          record {
+            buyers = none.buyers;
+            sellers = none.sellers;
+            rent = rent_small (flow_of c clearing l h) (prices_of c clearing (from part at) h) (prices_of c clearing (to part at) h) (flow_within h i)
+                (a.prices (from part at) h g.from_is j) (a.prices (to part at) h g.to_is j);
+            traded = none.traded;
+            shortfall = none.shortfall;
+          }
 
       few : n ≤ most_periods
       few = le_trans p.within a.of_clearing.limits.periods_most
@@ -275,13 +279,11 @@ module _ {c : Counts} {clearing part : List ℕ} {at l : ℕ} where
         period_is = m;
         from_is = rw e g.from_is;
         to_is = rw e g.to_is;
-        flows_long = p.flows.gained.long ∙ a.flows_long;
-        sums_long = p.sums.gained.long ∙ a.sums_long;
         flows_room = gathered_room p.flows a.flows_room few carried_within (omega arith);
-        sums_room = gathered_room p.sums a.sums_room few rent_within (omega arith);
+        sums_room = within_more (within_gain p.sums a.sums_room (all_within n most_periods 2000000000000 _ few rent_within)) (omega arith);
       }
 
-      pub period_counted : {fore aft : ℕ} {flows₂ sums₂ : List ℤ} → fore ≡ forward part at n → aft ≡ back part at n →
+      pub period_counted : {fore aft : ℕ} {flows₂ : List ℤ} {sums₂ : Sums} → fore ≡ forward part at n → aft ≡ back part at n →
           FlowCounted c clearing l n ends fore aft flows₁ flows₂ sums₁ sums₂ →
           PeriodsCounted c clearing part at l (n + 1) flows₀ flows₂ sums₀ sums₂
       period_counted q r k =
@@ -290,7 +292,7 @@ module _ {c : Counts} {clearing part : List ℕ} {at l : ℕ} where
             within = omega arith;
             sure = more_below p.sure t.sure;
             flows = more_gathered p.flows t.flows;
-            sums = more_gathered p.sums t.sums;
+            sums = gained_next n (λ h. record nothing { rent = rent_of c clearing (line_at part at) l h }) p.sums t.sums;
           }
 
 -- ---- all lines
@@ -299,16 +301,21 @@ module _ {c : Counts} {clearing part : List ℕ} {at l : ℕ} where
 sum_places : (n k : ℕ) (f : ℕ → ℤ) → k < n → sum n (λ i. at i (f i) k) ≡ f k
 sum_places n k f l = sum_only n k (λ i. at i (f i) k) l (λ i _ e. at_other i (f i) k (λ q. e (sym q))) ∙ at_same k (f k)
 
-sum_place : (n k : ℕ) (f : ℕ → ℤ) (j : ℕ) → sum n (λ i. at k (f i) j) ≡ at k (sum n f) j
-unfolding at
-sum_place n k f j = by (eqb j k)
-  where
-    by : (b : Bool) → sum n (λ i. cond b (f i) (pos 0)) ≡ cond b (sum n f) (pos 0)
-    by true = refl
-    by false = sum_zero n (λ _. pos 0) (λ _ _. refl)
+-- the rents of n periods
+sum_rents : (n : ℕ) (f : ℕ → ℤ) {a b : Sums} → SumsGained (all n (λ h. record nothing { rent = f h })) a b →
+    SumsGained (record nothing { rent = sum n f }) a b
+sum_rents n f s =
+    let none : sum n (λ _. pos 0) ≡ pos 0 = sum_zero n (λ _. pos 0) (λ _ _. refl) in
+    record {
+      buyers = rw none at s.buyers;
+      sellers = rw none at s.sellers;
+      rent = s.rent;
+      traded = rw none at s.traded;
+      shortfall = rw none at s.shortfall;
+    }
 
 -- one line, by its row in the day file
-module _ {c : Counts} (day : List ℕ) {clearing : List ℕ} {l : ℕ} {flows₀ flows₁ sums₀ sums₁ : List ℤ}
+module _ {c : Counts} (day : List ℕ) {clearing : List ℕ} {l : ℕ} {flows₀ flows₁ : List ℤ} {sums₀ sums₁ : Sums}
     (k : LineCounted c clearing (lines_part day) (row_start Lines c.periods l) l flows₀ flows₁ sums₀ sums₁) where
   sure_line : SureLine c day clearing l
   unfolding test line_of forward_of back_of
@@ -325,21 +332,20 @@ module _ {c : Counts} (day : List ℕ) {clearing : List ℕ} {l : ℕ} {flows₀
       gained_same k.all.flows.gained
       (λ z h _ i. sum_places c.periods h (λ j. line_leaves (day_of c day) (choice_of c clearing) z j l) i)
 
-  line_gives_lem : Gained 1 5 (λ _. line_gives c day clearing l) sums₀ sums₁
+  line_gives_lem : SumsGained (line_gives c day clearing l) sums₀ sums₁
   unfolding line_of
-  line_gives_lem =
-      gained_same k.all.sums.gained
-      (λ _ j _ _. sum_place c.periods rent (rent_at (day_of c day) (prices_of c clearing) (choice_of c clearing) l) j)
+  line_gives_lem = sum_rents c.periods (rent_at (day_of c day) (prices_of c clearing) (choice_of c clearing) l) k.all.sums
 
 module _ {c : Counts} {day clearing : List ℕ} where
-  pub no_line : {flows sums : List ℤ} → LinesSoFar c day clearing 0 flows flows sums sums
-  no_line = record { within = omega arith; sure = none_below; flows = none_gathered; sums = none_gathered }
+  pub no_line : {flows : List ℤ} {sums : Sums} → LinesSoFar c day clearing 0 flows flows sums sums
+  unfolding sum
+  no_line = record { within = omega arith; sure = none_below; flows = none_gathered; sums = no_gain }
 
-  module _ {n : ℕ} {flows₀ flows₁ sums₀ sums₁ : List ℤ} (p : LinesSoFar c day clearing n flows₀ flows₁ sums₀ sums₁) where
+  module _ {n : ℕ} {flows₀ flows₁ : List ℤ} {sums₀ sums₁ : Sums} (p : LinesSoFar c day clearing n flows₀ flows₁ sums₀ sums₁) where
     pub lines_counted : c.lines ≤ n → LinesCounted c day clearing flows₀ flows₁ sums₀ sums₁
     lines_counted m =
         let q : LinesSoFar c day clearing c.lines flows₀ flows₁ sums₀ sums₁ = rw (le_antisymm p.within m) at p in
-        record { sure = q.sure.each; flows = q.flows.gained; sums = q.sums.gained }
+        record { sure = q.sure.each; flows = q.flows.gained; sums = q.sums }
 
     module _ (a : LinesAsk c day clearing flows₀ sums₀) (m : n < c.lines) where
       leaves_within : (l : ℕ) → l < n → (z h : ℕ) → z < c.zones → h < c.periods →
@@ -347,16 +353,22 @@ module _ {c : Counts} {day clearing : List ℕ} where
       leaves_within l i z h _ j =
           net_flow_size (line_of c day l).from (line_of c day l).to z (flow_of c clearing l h) (flow_small ((p.sure.each l i).flow_is h j))
 
-      gives_within : (l : ℕ) → l < n → (z k : ℕ) → z < 1 → k < 5 → nat_abs (line_gives c day clearing l k) ≤ 50000000000000
+      gives_within : (l : ℕ) → l < n → SumsWithin 50000000000000 (line_gives c day clearing l)
       unfolding line_of
-      gives_within l i z k _ _ =
+      gives_within l i =
           let rents = rent_at (day_of c day) (prices_of c clearing) (choice_of c clearing) l in
           let s = p.sure.each l i in
           let ends = line_of c day l in
-          le_trans (at_size rent (sum c.periods rents) k)
-          (sum_within c.periods most_periods rents 2000000000000 a.framed.of_clearing.limits.periods_most
-          (λ h j. rent_small (flow_of c clearing l h) (prices_of c clearing ends.from h) (prices_of c clearing ends.to h)
-          (flow_small (s.flow_is h j)) (a.prices ends.from h s.row.from_is j) (a.prices ends.to h s.row.to_is j)))
+          let none = nothing_within 50000000000000 in
+          record {
+            buyers = none.buyers;
+            sellers = none.sellers;
+            rent = sum_within c.periods most_periods rents 2000000000000 a.framed.of_clearing.limits.periods_most
+                (λ h j. rent_small (flow_of c clearing l h) (prices_of c clearing ends.from h) (prices_of c clearing ends.to h)
+                (flow_small (s.flow_is h j)) (a.prices ends.from h s.row.from_is j) (a.prices ends.to h s.row.to_is j));
+            traded = none.traded;
+            shortfall = none.shortfall;
+          }
 
       few_lines : n ≤ most_lines
       few_lines = le_trans p.within a.framed.of_clearing.limits.lines_most
@@ -369,13 +381,11 @@ module _ {c : Counts} {day clearing : List ℕ} where
           line_is = m;
           starts = starts;
           ends = line_within a.framed.of_day q m e;
-          flows_long = p.flows.gained.long ∙ a.flows_long;
-          sums_long = p.sums.gained.long ∙ a.sums_long;
           flows_room = gathered_room p.flows a.flows_room few_lines leaves_within (omega arith);
-          sums_room = gathered_room p.sums a.sums_room few_lines gives_within (omega arith);
+          sums_room = within_more (within_gain p.sums a.sums_room (all_within n most_lines 50000000000000 _ few_lines gives_within)) (omega arith);
         }
 
-        pub next_line : {flows₂ sums₂ : List ℤ} → LineCounted c clearing part at n flows₁ flows₂ sums₁ sums₂ →
+        pub next_line : {flows₂ : List ℤ} {sums₂ : Sums} → LineCounted c clearing part at n flows₁ flows₂ sums₁ sums₂ →
             LinesSoFar c day clearing (n + 1) flows₀ flows₂ sums₀ sums₂
         next_line k =
             let t : LineCounted c clearing (lines_part day) (row_start Lines c.periods n) n flows₁ _ sums₁ _ = rw (q, e) at k in
@@ -383,5 +393,5 @@ module _ {c : Counts} {day clearing : List ℕ} where
               within = omega arith;
               sure = more_below p.sure (sure_line day t);
               flows = more_gathered p.flows (line_leaves_lem day t);
-              sums = more_gathered p.sums (line_gives_lem day t);
+              sums = gained_next n (line_gives c day clearing) p.sums (line_gives_lem day t);
             }

@@ -2,9 +2,10 @@
 -- day's counts. Assumes nothing.
 use Rattle.std.specs.Prelude.{ℕ, ◌+◌, ◌*◌, ◌<◌, ◌≤◌, ◌≡◌, true, ◌&&◌, List, ℤ, pos, neg_ℤ, nat_abs, ◌-ℤ◌, ◌*ℤ◌, length}
 use Rattle.std.specs.Int.Signed.{le_z}
-use Rattle.whole.specs.Whole as whole
 use Rattle.whole.specs.Whole.{sum, at}
-use Rattle.cells.specs.Cells.{Gained, Within, rent}
+use Rattle.cells.specs.Cells.{Gained, Within}
+use Rattle.cells.specs.Gains.{nothing, all, SumsWithin, SumsGained}
+use Rattle.cells.specs.declared.Sums.{Sums}
 use Rattle.limits.specs.Limits.{most_flow, most_volume}
 use Rattle.market.specs.Rules.{line_ok}
 use Rattle.market.specs.Measures.{line_leaves}
@@ -50,7 +51,6 @@ pub record Carries (c : Counts) (ends : Line) (period : ℕ) (flow : ℤ) (table
   pub to_is : ends.to < c.zones
   pub period_is : period < c.periods
   pub small : nat_abs flow ≤ most_flow
-  pub long : length table ≡ 200
   pub room : Within c.zones c.periods 3000000000000000000 table
 
 -- ---- a line in one period
@@ -61,22 +61,20 @@ module _ (c : Counts) (clearing : List ℕ) where
   rent_of ends l h = flow_of c clearing l h *ℤ (prices_of c clearing ends.to h -ℤ prices_of c clearing ends.from h)
 
   -- what is asked to count it
-  pub record FlowAsks (l h : ℕ) (ends : Line) (flows sums : List ℤ) : Type 0 where
+  pub record FlowAsks (l h : ℕ) (ends : Line) (flows : List ℤ) (sums : Sums) : Type 0 where
     pub of_clearing : OfClearing clearing c
     pub prices : PricesSmall c clearing
     pub line_is : l < c.lines
     pub period_is : h < c.periods
     pub from_is : ends.from < c.zones
     pub to_is : ends.to < c.zones
-    pub flows_long : length flows ≡ 200
-    pub sums_long : length sums ≡ 5
     pub flows_room : Within c.zones c.periods 3000000000000000000 flows
-    pub sums_room : Within 1 5 3000000000000000000 sums
+    pub sums_room : SumsWithin 3000000000000000000 sums
 
-  pub record FlowCounted (l h : ℕ) (ends : Line) (forward back : ℕ) (flows₀ flows₁ sums₀ sums₁ : List ℤ) : Type 0 where
+  pub record FlowCounted (l h : ℕ) (ends : Line) (forward back : ℕ) (flows₀ flows₁ : List ℤ) (sums₀ sums₁ : Sums) : Type 0 where
     pub sure : FlowSure forward back (prices_of c clearing ends.from h) (prices_of c clearing ends.to h) (flow_of c clearing l h)
     pub flows : Gained c.zones c.periods (carried ends h (flow_of c clearing l h)) flows₀ flows₁
-    pub sums : Gained 1 5 (λ _ k. at rent (rent_of ends l h) k) sums₀ sums₁
+    pub sums : SumsGained (record nothing { rent = rent_of ends l h }) sums₀ sums₁
 
 -- ---- a line
 
@@ -88,48 +86,44 @@ pub record EndsSure (c : Counts) (part : List ℕ) (at : ℕ) : Type 0 where
 
 module _ (c : Counts) (clearing part : List ℕ) (at l : ℕ) where
   -- what is asked to count it
-  pub record LineAsks (flows sums : List ℤ) : Type 0 where
+  pub record LineAsks (flows : List ℤ) (sums : Sums) : Type 0 where
     pub of_clearing : OfClearing clearing c
     pub prices : PricesSmall c clearing
     pub line_is : l < c.lines
     pub starts : at < 4294967296
     pub ends : at + (2 + 8 * c.periods) ≤ length part
-    pub flows_long : length flows ≡ 200
-    pub sums_long : length sums ≡ 5
     pub flows_room : Within c.zones c.periods 2000000000000000000 flows
-    pub sums_room : Within 1 5 2000000000000000000 sums
+    pub sums_room : SumsWithin 2000000000000000000 sums
 
   abbrev pub FlowSureAt : ℕ → Type 0
   FlowSureAt h =
       FlowSure (forward part at h) (back part at h) (prices_of c clearing (from part at) h) (prices_of c clearing (to part at) h) (flow_of c clearing l h)
 
   -- its first n periods
-  pub record PeriodsCounted (n : ℕ) (flows₀ flows₁ sums₀ sums₁ : List ℤ) : Type 0 where
+  pub record PeriodsCounted (n : ℕ) (flows₀ flows₁ : List ℤ) (sums₀ sums₁ : Sums) : Type 0 where
     pub within : n ≤ c.periods
     pub sure : Below n FlowSureAt
     pub flows : Gathered c.zones c.periods (λ h. carried (line_at part at) h (flow_of c clearing l h)) n flows₀ flows₁
-    pub sums : Gathered 1 5 (λ h _. whole.at rent (rent_of c clearing (line_at part at) l h)) n sums₀ sums₁
+    pub sums : SumsGained (all n (λ h. record nothing { rent = rent_of c clearing (line_at part at) l h })) sums₀ sums₁
 
   -- all of them
-  pub record LineCounted (flows₀ flows₁ sums₀ sums₁ : List ℤ) : Type 0 where
+  pub record LineCounted (flows₀ flows₁ : List ℤ) (sums₀ sums₁ : Sums) : Type 0 where
     pub row : LineRow c.periods c.zones part at
     pub all : PeriodsCounted c.periods flows₀ flows₁ sums₀ sums₁
 
 -- ---- all lines
 
 module _ (c : Counts) (day clearing : List ℕ) where
-  -- what is known before, and what is asked of the two tables
-  pub record LinesAsk (flows sums : List ℤ) : Type 0 where
+  -- what is known before, and what is asked of the table and of the sums
+  pub record LinesAsk (flows : List ℤ) (sums : Sums) : Type 0 where
     pub framed : Framed day clearing c
     pub prices : PricesSmall c clearing
-    pub flows_long : length flows ≡ 200
-    pub sums_long : length sums ≡ 5
     pub flows_room : Within c.zones c.periods 1000000000000000000 flows
-    pub sums_room : Within 1 5 1000000000000000000 sums
+    pub sums_room : SumsWithin 1000000000000000000 sums
 
   -- the first n lines
-  pub record LinesSoFar (n : ℕ) (flows₀ flows₁ sums₀ sums₁ : List ℤ) : Type 0 where
+  pub record LinesSoFar (n : ℕ) (flows₀ flows₁ : List ℤ) (sums₀ sums₁ : Sums) : Type 0 where
     pub within : n ≤ c.lines
     pub sure : Below n (SureLine c day clearing)
     pub flows : Gathered c.zones c.periods (λ l z h. line_leaves (day_of c day) (choice_of c clearing) z h l) n flows₀ flows₁
-    pub sums : Gathered 1 5 (λ l _. line_gives c day clearing l) n sums₀ sums₁
+    pub sums : SumsGained (all n (line_gives c day clearing)) sums₀ sums₁

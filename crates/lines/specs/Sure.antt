@@ -1,8 +1,10 @@
 -- What the walk over prices, lines and flows is sure of: rows that obey their rules, and the rules of a clearing at their places; and what
 -- it counts. `c` are the day's counts. Assumes nothing.
 use Rattle.std.specs.Prelude.{ℕ, ◌<◌, ◌≡◌, true, List, ℤ}
-use Rattle.whole.specs.Whole.{sum, at}
-use Rattle.cells.specs.Cells.{Gained, rent}
+use Rattle.whole.specs.Whole.{sum}
+use Rattle.cells.specs.Cells.{Gained}
+use Rattle.cells.specs.Gains.{nothing, all, SumsGained}
+use Rattle.cells.specs.declared.Sums.{Sums}
 use Rattle.market.specs.Market.{rent_at}
 use Rattle.market.specs.Rules.{test}
 use Rattle.market.specs.Measures.{line_leaves}
@@ -26,11 +28,11 @@ module _ (c : Counts) (day clearing : List ℕ) where
     pub line : (h : ℕ) → h < c.periods → test (day_of c day) (prices_of c clearing) (choice_of c clearing) Line l h ≡ true
 
   -- what a line adds to the five sums: its rent
-  abbrev pub line_gives : ℕ → ℕ → ℤ
-  line_gives l k = at rent (sum c.periods (rent_at (day_of c day) (prices_of c clearing) (choice_of c clearing) l)) k
+  abbrev pub line_gives : ℕ → Sums
+  line_gives l = record nothing { rent = sum c.periods (rent_at (day_of c day) (prices_of c clearing) (choice_of c clearing) l) }
 
   -- each line is sure, and what they all take from each zone and period, and add to the sums, is counted
-  pub record LinesCounted (flows₀ flows₁ sums₀ sums₁ : List ℤ) : Type 0 where
+  pub record LinesCounted (flows₀ flows₁ : List ℤ) (sums₀ sums₁ : Sums) : Type 0 where
     pub sure : (l : ℕ) → l < c.lines → SureLine l
     pub flows : Gained c.zones c.periods (λ z h. sum c.lines (line_leaves (day_of c day) (choice_of c clearing) z h)) flows₀ flows₁
-    pub sums : Gained 1 5 (λ _ k. sum c.lines (λ l. line_gives l k)) sums₀ sums₁
+    pub sums : SumsGained (all c.lines line_gives) sums₀ sums₁

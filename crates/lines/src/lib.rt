@@ -4,50 +4,41 @@
 
 ghost use Rattle.std.specs.Prelude.{◌≡◌, true, ℕ, ◌<◌, ◌≤◌, pos, length, get_or};
 ghost use Rattle.cells.specs.Cells.{Gained, Within};
+ghost use Rattle.cells.specs.Gains.{SumsWithin};
 ghost use Rattle.market.specs.Rules.{line_ok};
 ghost use Rattle.rows.specs.Sentences.{IsPrice};
-ghost use Rattle.book.specs.Of.{OfClearing};
 ghost use Rattle.book.specs.Book.{floor_of, ceiling_of, prices_of};
-ghost use Rattle.book.specs.Framed.{Framed, PricesSmall};
+ghost use Rattle.book.specs.Framed.{PricesSmall};
 ghost use Rattle.lines.specs.Sure.{SurePrice, LinesCounted};
 ghost use Rattle.lines.specs.Counted.{Below, Between, FlowSure, Carries, carried, FlowAsks, FlowCounted, LineAsks, LineCounted};
 
+use book::Framed;
+use cells::Sums;
 use day::Counts;
 use market::Line;
-use rows::Kind;
+use rows::{Form, Kind};
 
 // ---- the prices
 
 // A period's prices in all zones, from its floor to its ceiling.
-fn period_sure(clearing: &[u8], counts: Counts, period: usize, floor: i64, ceiling: i64) -> bool
-    requires { (OfClearing clearing.now counts) × (period < counts.periods) }
-    ensures { result ≡ true → Below counts.zones (λ zone. Between floor ceiling (prices_of counts clearing.now zone period)) }
+fn period_sure(framed: Framed<'_>, period: usize, floor: i64, ceiling: i64) -> bool
+    requires { period < framed.counts.periods }
+    ensures { let f = framed.entry in result ≡ true → Below f.counts.zones (λ zone. Between floor ceiling (prices_of f.counts f.clearing.now zone period)) }
 {
-    for zone in 0..counts.zones {
-        if !limits::between(
-            book::price_of(clearing, counts, zone, period),
-            floor,
-            ceiling,
-        ) {
+    for zone in 0..framed.counts.zones {
+        if !limits::between(framed.price(zone, period), floor, ceiling) {
             return false;
         }
     }
     true
 }
 
-pub fn prices_sure(day: &[u8], clearing: &[u8], counts: Counts) -> bool
-    requires framed { Framed day.now clearing.now counts }
-    requires by_index { (h : ℕ) → h < counts.periods → IsPrice (floor_of day.now h) × IsPrice (ceiling_of day.now h) }
-    ensures { result ≡ true → (z h : ℕ) → z < counts.zones → h < counts.periods → SurePrice counts day.now clearing.now z h }
+pub fn prices_sure(framed: Framed<'_>) -> bool
+    requires { (h : ℕ) → h < framed.counts.periods → IsPrice (floor_of framed.day.now h) × IsPrice (ceiling_of framed.day.now h) }
+    ensures { let f = framed.entry in result ≡ true → (z h : ℕ) → z < f.counts.zones → h < f.counts.periods → SurePrice f.counts f.day.now f.clearing.now z h }
 {
-    for period in 0..counts.periods {
-        if !period_sure(
-            clearing,
-            counts,
-            period,
-            book::floor_of(day, counts, period),
-            book::ceiling_of(day, counts, period),
-        ) {
+    for period in 0..framed.counts.periods {
+        if !period_sure(framed, period, framed.floor(period), framed.ceiling(period)) {
             return false;
         }
     }
@@ -85,7 +76,7 @@ fn flow_sure(forward: u32, back: u32, from: i64, to: i64, flow: i64) -> bool
 }
 
 // The flow leaves "from" and enters "to".
-fn carry(flows: &mut [i64], counts: Counts, ends: Line, period: usize, flow: i64)
+fn carry(flows: &mut [i64; 200], counts: Counts, ends: Line, period: usize, flow: i64)
     requires { Carries counts ends period flow flows.old }
     ensures { Gained counts.zones counts.periods (carried ends period flow) flows.old flows.new }
 {
@@ -98,28 +89,27 @@ fn carry(flows: &mut [i64], counts: Counts, ends: Line, period: usize, flow: i64
 
 // A line in one period.
 fn count_flow(
-    clearing: &[u8],
-    counts: Counts,
+    framed: Framed<'_>,
     line: usize,
     period: usize,
     ends: Line,
     forward: u32,
     back: u32,
-    flows: &mut [i64],
-    sums: &mut [i64],
+    flows: &mut [i64; 200],
+    sums: &mut Sums,
 ) -> bool
-    requires { FlowAsks counts clearing.now line period ends flows.old sums.old }
-    ensures { result ≡ true → FlowCounted counts clearing.now line period ends forward back
+    requires { FlowAsks framed.counts framed.clearing.now line period ends flows.old sums.old }
+    ensures { result ≡ true → FlowCounted framed.entry.counts framed.entry.clearing.now line period ends forward back
         flows.old flows.new sums.old sums.new }
 {
-    let flow = book::flow_of(clearing, counts, line, period);
-    let from = book::price_of(clearing, counts, ends.from, period);
-    let to = book::price_of(clearing, counts, ends.to, period);
+    let flow = framed.flow(line, period);
+    let from = framed.price(ends.from, period);
+    let to = framed.price(ends.to, period);
     if !flow_sure(forward, back, from, to, flow) {
         return false;
     }
-    cells::add_at(sums, cells::RENT, market::rent(flow, from, to));
-    carry(flows, counts, ends, period, flow);
+    sums.rent += market::rent(flow, from, to);
+    carry(flows, framed.counts, ends, period, flow);
     true
 }
 
@@ -127,24 +117,25 @@ fn count_flow(
 fn count_line(
     part: &[u8],
     at: usize,
-    clearing: &[u8],
-    counts: Counts,
+    framed: Framed<'_>,
     line: usize,
-    flows: &mut [i64],
-    sums: &mut [i64],
+    flows: &mut [i64; 200],
+    sums: &mut Sums,
 ) -> bool
-    requires { LineAsks counts clearing.now part.now at line flows.old sums.old }
-    ensures { result ≡ true → LineCounted counts clearing.now part.now at line
+    requires { LineAsks framed.counts framed.clearing.now part.now at line flows.old sums.old }
+    ensures { result ≡ true → LineCounted framed.entry.counts framed.entry.clearing.now part.now at line
         flows.old flows.new sums.old sums.new }
 {
     let ends = book::line_at(part, at);
-    if !((ends.from < counts.zones) & (ends.to < counts.zones) & (ends.to != ends.from)) {
+    if !((ends.from < framed.counts.zones)
+        & (ends.to < framed.counts.zones)
+        & (ends.to != ends.from))
+    {
         return false;
     }
-    for period in 0..counts.periods {
+    for period in 0..framed.counts.periods {
         if !count_flow(
-            clearing,
-            counts,
+            framed,
             line,
             period,
             ends,
@@ -159,26 +150,24 @@ fn count_line(
     true
 }
 
-pub fn count_lines(
-    day: &[u8],
-    clearing: &[u8],
-    counts: Counts,
-    flows: &mut [i64],
-    sums: &mut [i64],
-) -> bool
-    requires framed { (Framed day.now clearing.now counts) × (PricesSmall counts clearing.now) }
-    requires flows_len { (length flows.old ≡ 200) × (length sums.old ≡ 5) }
-    requires within { (Within counts.zones counts.periods 1000000000000000000 flows.old) × (Within 1 5 1000000000000000000 sums.old) }
-    ensures { result ≡ true → LinesCounted counts day.now clearing.now
+pub fn count_lines(framed: Framed<'_>, flows: &mut [i64; 200], sums: &mut Sums) -> bool
+    requires prices { PricesSmall framed.counts framed.clearing.now }
+    requires within { (Within framed.counts.zones framed.counts.periods 1000000000000000000 flows.old) × (SumsWithin 1000000000000000000 sums.old) }
+    ensures { result ≡ true → LinesCounted framed.entry.counts framed.entry.day.now framed.entry.clearing.now
         flows.old flows.new sums.old sums.new }
 {
-    let part = parts::lines_part(day, counts);
-    for line in 0..counts.lines {
+    let part = framed.lines_part();
+    for line in 0..framed.counts.lines {
         if !count_line(
             part,
-            book::row_start(Kind::Lines, counts.periods, line),
-            clearing,
-            counts,
+            book::row_start(
+                Form {
+                    kind: Kind::Lines,
+                    periods: framed.counts.periods,
+                },
+                line,
+            ),
+            framed,
             line,
             flows,
             sums,

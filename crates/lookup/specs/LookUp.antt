@@ -39,8 +39,8 @@ look_up_stages section day = once 19 (place 0 0) (between 1 5 section) ∷ day_s
 
 -- refused, it gives an empty part
 abbrev pub look_up : ℕ → List ℕ → List ℕ
-look_up section day = answer (rows_of section day) (λ k p. []) (first_fault (look_up_stages section day))
+look_up section day = answer (rows_of section day) (λ r. []) (first_fault (look_up_stages section day))
 
 -- where it starts in the file; an empty part that is a refusal's, at the file's start
 abbrev pub look_up_at : ℕ → List ℕ → ℕ
-look_up_at section day = answer (rows_at section day) (λ k p. 0) (first_fault (look_up_stages section day))
+look_up_at section day = answer (rows_at section day) (λ r. 0) (first_fault (look_up_stages section day))

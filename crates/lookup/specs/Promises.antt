@@ -6,8 +6,6 @@ use Rattle.stages.specs.First.{both}
 use Rattle.stages.specs.Stage.{Means, first_fault, answer}
 use Rattle.stages.proofs.StageLaws.{means}
 use Rattle.stages.specs.declared.Place.{Place}
-use Rattle.stages.specs.declared.Fault.{Fault}
-use Rattle.stages.specs.declared.Fault.TheVariants.{Broken, Clean}
 use Rattle.sections.specs.Section.{count, rows, onward}
 use Rattle.rows.specs.Rows.{row_size}
 use Rattle.rows.specs.declared.Kind.TheVariants.{Periods, Zones, Lines, Steps, Blocks}
@@ -15,29 +13,31 @@ use Rattle.day.specs.Day.{periods, zones_part, lines_part, steps_part, blocks_pa
 use Rattle.day.specs.Good.{GoodDay, day_clean}
 use Rattle.parts.specs.Of.{zones_at, lines_at, steps_at, blocks_at}
 use Rattle.lookup.specs.LookUp.{pick, rows_of, rows_at, look_up_stages, look_up, look_up_at}
+use Rattle.std.specs.Prelude.{Ok, Err}
+use Rattle.stages.specs.Stage.{Fault, clean}
 
 module _ (section : ℕ) (day : List ℕ) where
   -- not refused just where the section is 1 to 5 and the day file reads without fault
-  pub found_is : (first_fault (look_up_stages section day) ≡ Clean) ↔ (((1 ≤ section) × (section ≤ 5)) × GoodDay day)
+  pub found_is : (first_fault (look_up_stages section day) ≡ clean) ↔ (((1 ≤ section) × (section ≤ 5)) × GoodDay day)
   found_is = (
     λ e.
-        let m = (means (look_up_stages section day) Clean).0 e in
+        let m = (means (look_up_stages section day) clean).0 e in
         let b = (both (leb 1 section) (leb section 5)).0 (m.0 0 0 (omega arith) (omega arith)) in
         ((leb-true 1 section b.0, leb-true section 5 b.1), (day_clean day).0 m.1),
-    λ g. (means (look_up_stages section day) Clean).1
+    λ g. (means (look_up_stages section day) clean).1
         (λ z i _ _. (both (leb 1 section) (leb section 5)).1 (le-leb 1 section g.0.0, le-leb section 5 g.0.1), (day_clean day).1 g.1),
   )
 
   -- refused with a number and a place just where that is the first fault, 19 before the day file's own
-  pub refused_is : (k : ℕ) (p : Place) → (first_fault (look_up_stages section day) ≡ Broken k p) ↔ Means (look_up_stages section day) (Broken k p)
-  refused_is k p = means (look_up_stages section day) (Broken k p)
+  pub refused_is : (k : ℕ) (p : Place) → (first_fault (look_up_stages section day) ≡ Err (k, p)) ↔ Means (look_up_stages section day) (Err (k, p))
+  refused_is k p = means (look_up_stages section day) (Err (k, p))
 
   -- refused, it gives an empty part
-  pub refused_gives : (k : ℕ) (p : Place) → first_fault (look_up_stages section day) ≡ Broken k p → look_up section day ≡ []
+  pub refused_gives : (k : ℕ) (p : Place) → first_fault (look_up_stages section day) ≡ Err (k, p) → look_up section day ≡ []
   refused_gives k p e = rw e
 
   -- not refused, it gives the section's rows
-  pub found_gives : first_fault (look_up_stages section day) ≡ Clean → look_up section day ≡ rows_of section day
+  pub found_gives : first_fault (look_up_stages section day) ≡ clean → look_up section day ≡ rows_of section day
   found_gives e = rw e
 
 -- an empty section gives an empty part
@@ -86,9 +86,9 @@ rows_of_part section day =
 pub part_of_file : (section : ℕ) (day : List ℕ) → PartAt day (look_up_at section day) (look_up section day)
 part_of_file section day = by (first_fault (look_up_stages section day))
   where
-    by : (f : Fault) → PartAt day (answer (rows_at section day) (λ k p. 0) f) (answer (rows_of section day) (λ k p. []) f)
-    by Clean = rows_of_part section day
-    by (Broken k p) = record { bytes = refl }
+    by : (f : Fault) → PartAt day (answer (rows_at section day) (λ r. 0) f) (answer (rows_of section day) (λ r. []) f)
+    by (Ok _) = rows_of_part section day
+    by (Err (k, p)) = record { bytes = refl }
 
 -- ---- the contracts of `look_up` and `look_up_fault` allow one answer
 

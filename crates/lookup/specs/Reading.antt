@@ -1,48 +1,48 @@
 -- What the look-up's reading of the day file answers, and what follows for the part and the refusal. Assumes nothing.
-use Rattle.std.specs.Prelude.{ℕ, ◌+◌, ◌≡◌, refl, List, []}
+use Rattle.std.specs.Prelude.{ℕ, ◌+◌, ◌≡◌, List, []}
 use Rattle.std.proofs.Common.{add_assoc, sym, ap, ◌∙◌}
-use Rattle.stages.specs.Stage.{first_fault, answer}
-use Rattle.stages.proofs.StageLaws.{means, answer_fault}
+use Rattle.stages.specs.Stage.{first_fault}
+use Rattle.stages.proofs.StageLaws.{means, result_fault}
 use Rattle.stages.specs.declared.Place.{Place}
-use Rattle.stages.specs.declared.Fault.TheVariants.{Broken, Clean}
 use Rattle.sections.specs.Section.{onward}
 use Rattle.day.specs.declared.Counts.{Counts}
-use Rattle.day.specs.declared.DayFile.{DayFile}
-use Rattle.day.specs.declared.DayFile.TheVariants.{Good, Bad}
-use Rattle.day.specs.Day.{counts, fault_of}
+use Rattle.day.specs.Day.{counts}
 use Rattle.day.specs.Good.{day_clean}
 use Rattle.day.specs.Frame.{framed_day}
 use Rattle.parts.specs.Of.{OfDay}
 use Rattle.lookup.specs.LookUp.{rows_of, rows_at, look_up_stages, look_up, look_up_at}
+use Rattle.std.specs.Prelude.{Result, Ok, Err}
+use Rattle.stages.specs.declared.Refusal.{Refusal}
+use Rattle.stages.specs.Stage.{clean, fault_of, judged}
 
-abbrev pub day_file_for : ℕ → List ℕ → DayFile
-day_file_for section day = answer (Good (counts day)) Bad (first_fault (look_up_stages section day))
+abbrev pub day_file_for : ℕ → List ℕ → Result Counts Refusal
+day_file_for section day = judged (counts day) (look_up_stages section day)
 
 module _ (section : ℕ) (day : List ℕ) where
   -- the number and the place of the answer are those of the first fault
-  fault_for : {r : DayFile} → day_file_for section day ≡ r → first_fault (look_up_stages section day) ≡ fault_of r
-  fault_for e = sym (answer_fault (Good (counts day)) Bad fault_of refl (λ k p. refl) (first_fault (look_up_stages section day))) ∙ ap fault_of e
+  fault_for : {r : Result Counts Refusal} → day_file_for section day ≡ r → first_fault (look_up_stages section day) ≡ fault_of r
+  fault_for e = sym (result_fault (counts day) (first_fault (look_up_stages section day))) ∙ ap fault_of e
 
-  pub refused_for : {k : ℕ} {p : Place} → day_file_for section day ≡ Bad k p → first_fault (look_up_stages section day) ≡ Broken k p
+  pub refused_for : {k : ℕ} {p : Place} → day_file_for section day ≡ Err (k, p) → first_fault (look_up_stages section day) ≡ Err (k, p)
   refused_for e = fault_for e
 
-  pub clean_for : {c : Counts} → day_file_for section day ≡ Good c → first_fault (look_up_stages section day) ≡ Clean
+  pub clean_for : {c : Counts} → day_file_for section day ≡ Ok c → first_fault (look_up_stages section day) ≡ clean
   clean_for e = fault_for e
 
   -- a good answer is that of a day file that reads without fault, with its counts
-  pub of_day : {c : Counts} → day_file_for section day ≡ Good c → OfDay day c
+  pub of_day : {c : Counts} → day_file_for section day ≡ Ok c → OfDay day c
   of_day {c} e =
-      let same : Good (counts day) ≡ Good c = rw (clean_for e) at e in
-      record { framed = framed_day ((day_clean day).0 ((means (look_up_stages section day) Clean).0 (clean_for e)).1); counted = cc }
+      let same : Ok (counts day) ≡ Ok c = rw (clean_for e) at e in
+      record { framed = framed_day ((day_clean day).0 ((means (look_up_stages section day) clean).0 (clean_for e)).1); counted = cc }
 
   -- the part, and where it stands in the file
-  pub refused_part : {k : ℕ} {p : Place} → day_file_for section day ≡ Bad k p → ([] ≡ look_up section day) × (look_up_at section day ≡ 0)
+  pub refused_part : {k : ℕ} {p : Place} → day_file_for section day ≡ Err (k, p) → ([] ≡ look_up section day) × (look_up_at section day ≡ 0)
   refused_part e = (rw (refused_for e), rw (refused_for e))
 
-  pub found_part : {c : Counts} {x : List ℕ} → day_file_for section day ≡ Good c → x ≡ rows_of section day → x ≡ look_up section day
+  pub found_part : {c : Counts} {x : List ℕ} → day_file_for section day ≡ Ok c → x ≡ rows_of section day → x ≡ look_up section day
   found_part e q = rw (clean_for e) q
 
-  pub found_at : {c : Counts} (file : ℕ × ℕ) {x : ℕ × ℕ} → day_file_for section day ≡ Good c → x ≡ onward (rows_at section day) file →
+  pub found_at : {c : Counts} (file : ℕ × ℕ) {x : ℕ × ℕ} → day_file_for section day ≡ Ok c → x ≡ onward (rows_at section day) file →
       x ≡ onward (look_up_at section day) file
   found_at file e q = rw (clean_for e) q
 

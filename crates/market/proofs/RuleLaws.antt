@@ -10,7 +10,6 @@ use Rattle.stages.specs.First.{both, apart, leb_is, eqb_is}
 use Rattle.stages.specs.Stage.{Stage, Holds, Means, first_fault}
 use Rattle.stages.proofs.StageLaws.{means}
 use Rattle.stages.specs.Lists.{Each, In, each_in}
-use Rattle.stages.specs.declared.Fault.TheVariants.{Clean}
 use Rattle.market.specs.Market.{Day, Choice, Prices, block_volume, surplus_of, whole_surplus, rent, shortfall}
 use Rattle.limits.specs.Limits.{most_ratio}
 use Rattle.market.specs.Other.{Allowed}
@@ -23,6 +22,7 @@ use Rattle.market.specs.declared.Side.{Side}
 use Rattle.market.specs.declared.Side.TheVariants.{Sell, Buy}
 use Rattle.market.specs.declared.Rule.{Rule}
 use Rattle.market.specs.declared.Rule.TheVariants.{Price, Capacity, Quantity, Ratio, Whole, Balance, Step, Line, Block}
+use Rattle.stages.specs.Stage.{clean}
 
 -- ---- a test's answer, as a fact
 
@@ -91,10 +91,10 @@ module _ (d : Day) (p : Prices) (c : Choice) where
   each_rule P h = (h Price, (h Capacity, (h Quantity, (h Ratio, (h Whole, (h Balance, (h Step, (h Line, (h Block, tt)))))))))
 
   -- all stages are clean where each rule holds
-  clean_is : Means (rule_stages d p c) Clean ↔ ((rule : Rule) → Holds (rule_stage d p c rule))
+  clean_is : Means (rule_stages d p c) clean ↔ ((rule : Rule) → Holds (rule_stage d p c rule))
   clean_is = (λ m rule. each_in Holds (rule_stages d p c) m (listed rule), each_rule Holds)
 
-  pub lawful_is : Means (rule_stages d p c) Clean ↔ Lawful d p c
+  pub lawful_is : Means (rule_stages d p c) clean ↔ Lawful d p c
   lawful_is = (λ m. lawful (clean_is.0 m), λ h. clean_is.1 (holds h))
     where
       lawful : ((rule : Rule) → Holds (rule_stage d p c rule)) → Lawful d p c
@@ -132,9 +132,9 @@ module _ (d : Day) (p : Prices) (c : Choice) where
       ∷ []
 
   -- a choice is allowed where their tests pass
-  pub tests_allow : ((k : ℕ) → k < d.blocks → c.ratio k ≤ most_ratio) → first_fault priceless ≡ Clean → Allowed d c
+  pub tests_allow : ((k : ℕ) → k < d.blocks → c.ratio k ≤ most_ratio) → first_fault priceless ≡ clean → Allowed d c
   tests_allow most e =
-      let m = (means priceless Clean).0 e in
+      let m = (means priceless clean).0 e in
       record {
         quantities = λ i l. (rule_holds Quantity).0 m.1.0 i 0 l (omega arith);
         capacities = (rule_holds Capacity).0 m.0;

@@ -9,6 +9,8 @@ ghost use Rattle.market.specs.Market.{block_volume, volume_at};
 ghost use Rattle.market.specs.Rules.{equal, full_or_none, step_ok, line_ok, ratio_ok, whole_ok, block_ok};
 ghost use Rattle.market.specs.Measures.{Small, gain, sold, bought, measured};
 
+use stages::Broken;
+
 // The ratio that is all of a block, in thousandths.
 pub const WHOLE: u32 = 1000;
 
@@ -55,7 +57,7 @@ pub struct Trade {
 }
 
 // The six totals of an accepted clearing.
-#[derive(Clone, Copy)]
+#[derive(Clone, Copy, Debug, Default, PartialEq, Eq)]
 pub struct Totals {
     pub value: i64,
     pub buyers: i64,
@@ -79,6 +81,29 @@ pub enum Rule {
     Block,
 }
 
+// What a refusal calls broken where a rule is.
+impl From<Rule> for Broken {
+    ghost use Rattle.std.specs.Prelude.{◌≡◌};
+    ghost use Rattle.stages.specs.Number.{number as code};
+    ghost use Rattle.market.specs.Rules.{number};
+
+    ghost from_gives = { λ rule broken. code broken ≡ number rule };
+
+    fn from(rule: Rule) -> Broken {
+        match rule {
+            Rule::Price => Broken::Price,
+            Rule::Capacity => Broken::Capacity,
+            Rule::Quantity => Broken::Quantity,
+            Rule::Ratio => Broken::Ratio,
+            Rule::Whole => Broken::Whole,
+            Rule::Balance => Broken::Balance,
+            Rule::Step => Broken::Step,
+            Rule::Line => Broken::Line,
+            Rule::Block => Broken::Block,
+        }
+    }
+}
+
 // What is counted of a trade.
 #[derive(Clone, Copy)]
 pub enum Measure {
@@ -100,7 +125,7 @@ pub enum Measure {
 pub fn equal(a: i64, b: i64) -> bool
     ensures { result ≡ equal a b }
 {
-    (a <= b) & (b <= a)
+    a == b
 }
 
 fn full_or_none(ask: i64, get: i64, quantity: u32, volume: u32) -> bool
@@ -160,13 +185,13 @@ pub fn gain(get: i64, ask: i64, volume: u32) -> i64
     requires { (nat_abs get ≤ most_price) × ((nat_abs ask ≤ most_price) × (volume ≤ most_volume)) }
     ensures { result ≡ gain get ask volume }
 {
-    (get - ask) * volume as i64
+    (get - ask) * i64::from(volume)
 }
 
 pub fn wide(n: u32) -> i64
     ensures { result ≡ pos n }
 {
-    n as i64
+    i64::from(n)
 }
 
 pub fn negative(volume: i64) -> i64

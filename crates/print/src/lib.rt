@@ -32,8 +32,8 @@ pub fn spaced<W: Write>(out: &mut W, n: usize) -> io::Result<usize>
     ensures value { IfOk result (λ m. m ≡ n) }
     ensures bytes { OnOk result (Appends (W.contents out.old) (W.contents out.new) (32 ∷ decimal n)) }
 {
-    text(out, b" ")?;
-    number(out, n)
+    write!(out, " {n}")?;
+    Ok(n)
 }
 
 // Prints a whole number in plain decimal, with a minus sign where it is below zero. Gives what it printed behind the sign.
@@ -41,14 +41,11 @@ pub fn signed<W: Write>(out: &mut W, v: i64) -> io::Result<u64>
     ensures value { IfOk result (λ n. n ≡ nat_abs v) }
     ensures bytes { OnOk result (Appends (W.contents out.old) (W.contents out.new) (signed_decimal v)) }
 {
-    if v < 0 {
-        out.write_all(b"-")?;
-    }
-    let n = wire::size(v);
-    write!(out, "{n}")?;
-    Ok(n)
+    write!(out, "{v}")?;
+    Ok(v.unsigned_abs())
 }
 
+// By itself: with `write!` in the loop over the bytes a goal stayed open.
 #[tactic(auto, using(std::proofs::lemmas::Fmt::hex_byte))]
 fn byte<W: Write>(out: &mut W, x: u8) -> io::Result<()>
     ensures { OnOk result (Appends (W.contents out.old) (W.contents out.new) (two_digits x)) }
@@ -61,10 +58,8 @@ pub fn bytes<W: Write>(out: &mut W, s: &[u8]) -> io::Result<usize>
     ensures count { IfOk result (λ n. n ≡ length s.now) }
     ensures bytes { OnOk result (Appends (W.contents out.old) (W.contents out.new) (hex s.now)) }
 {
-    let mut n = 0;
-    while n < s.len() {
-        byte(out, s[n])?;
-        n = n + 1;
+    for b in s {
+        byte(out, *b)?;
     }
-    Ok(n)
+    Ok(s.len())
 }

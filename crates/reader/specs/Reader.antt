@@ -4,10 +4,11 @@ use Rattle.stages.specs.Stage.{Stage}
 use Rattle.sections.specs.Section.{Numbers, section}
 use Rattle.sections.specs.Good.{GoodSection, Head, FirstBad}
 use Rattle.sections.specs.Answer.{reading_of, section_of}
-use Rattle.sections.specs.declared.Section.{Section}
-use Rattle.sections.specs.declared.Reading.{Reading}
+use Rattle.sections.specs.declared.SectionFault.{SectionFault}
 use Rattle.rows.specs.Rows.{row_size, field_count, field_ok}
 use Rattle.rows.specs.declared.Kind.{Kind}
+use Rattle.std.specs.Prelude.{Result}
+use Rattle.stages.specs.declared.Refusal.{Refusal}
 
 -- the section with this number, with so many rows, in a day of so many periods and zones
 abbrev pub file_section : Numbers → ℕ → Kind → ℕ → ℕ → ℕ → ℕ → List ℕ → List Stage
@@ -35,8 +36,8 @@ module _ (s row field : ℕ) where
       ((number ≡ s) × BadField kind least most periods zones part row field) ⊎ (GoodRows kind least most periods zones part × later)
 
 -- its reader's answer, and the same with the number and the place of a fault
-abbrev pub rows_at : Kind → ℕ → ℕ → ℕ → ℕ → List ℕ → Section
+abbrev pub rows_at : Kind → ℕ → ℕ → ℕ → ℕ → List ℕ → Result ℕ SectionFault
 rows_at kind least most periods zones part = section_of least most (row_size kind periods) (field_count kind periods) (field_ok kind periods zones part) part
 
-abbrev pub reading_at : Numbers → ℕ → Kind → ℕ → ℕ → ℕ → ℕ → List ℕ → Reading
+abbrev pub reading_at : Numbers → ℕ → Kind → ℕ → ℕ → ℕ → ℕ → List ℕ → Result ℕ Refusal
 reading_at numbers number kind least most periods zones part = reading_of numbers number (rows_at kind least most periods zones part)

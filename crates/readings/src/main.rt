@@ -5,125 +5,94 @@
 ghost use Rattle.std.specs.Prelude.{◌≡◌, length};
 ghost use Rattle.input.specs.Within.{IsPrefixLen};
 
-use clearing::Files;
-use stages::{Fault, Place};
+use stages::{Place, Refusal};
 use std::io::Write;
-use std::{fs, io};
+use std::{fmt, fs, io};
 
-fn say_place<W: Write>(out: &mut W, number: u8, place: Place) -> io::Result<()> {
-    print::spaced(out, number as usize)?;
-    print::spaced(out, place.first)?;
-    print::spaced(out, place.second)?;
-    print::spaced(out, place.third)?;
-    Ok(())
-}
-
-fn say_fault<W: Write>(out: &mut W, fault: Fault) -> io::Result<()> {
+fn say_fault<W: Write>(out: &mut W, fault: Result<(), Refusal>) -> io::Result<()> {
     match fault {
-        Fault::Broken(k, p) => say_place(out, k, p),
-        Fault::Clean => {
-            print::text(out, b" 0 0 0 0")?;
-            Ok(())
-        }
+        Ok(()) => write!(out, " 0 {}", Place::new(0, 0)),
+        Err(refusal) => write!(out, " {refusal}"),
     }
 }
 
 // ---- the readers on two files
 
-fn fault_of(files: Files) -> Fault {
-    match files {
-        Files::Bad(k, p) => Fault::Broken(k, p),
-        Files::Good(_) => Fault::Clean,
-    }
-}
-
 fn say_reading<W: Write>(out: &mut W, day: &[u8], clearing: &[u8]) -> io::Result<()> {
-    say_fault(out, fault_of(clearing::read_files(day, clearing)))?;
-    print::text(out, b"\n")?;
-    Ok(())
+    say_fault(out, clearing::read_files(day, clearing).map(|_| ()))?;
+    writeln!(out)
 }
 
-fn say_named<W: Write>(out: &mut W, name: &[u8], day: &[u8], clearing: &[u8]) -> io::Result<()> {
-    print::text(out, name)?;
+fn say_named<W: Write>(out: &mut W, name: &str, day: &[u8], clearing: &[u8]) -> io::Result<()> {
+    write!(out, "{name}")?;
     say_reading(out, day, clearing)
 }
 
 // ---- the readers with one of the files changed
 
-// The two files' numbers, as the edits have them.
-const DAY: u8 = 0;
-
-const CLEARING: u8 = 1;
-
-fn say_file<W: Write>(out: &mut W, file: u8) -> io::Result<()> {
-    if file == DAY {
-        print::text(out, b"day")?;
-    } else {
-        print::text(out, b"clearing")?;
-    }
-    Ok(())
+#[derive(Clone, Copy)]
+enum File {
+    Day,
+    Clearing,
 }
 
-fn chosen<'a>(file: u8, day: &'a [u8], clearing: &'a [u8]) -> &'a [u8] {
-    if file == DAY { day } else { clearing }
+// The edits have the day file as 0.
+impl From<u8> for File {
+    fn from(number: u8) -> File {
+        if number == 0 {
+            File::Day
+        } else {
+            File::Clearing
+        }
+    }
+}
+
+impl fmt::Display for File {
+    fn fmt<W: fmt::Write>(&self, f: &mut fmt::Formatter<W>) -> fmt::Result {
+        match self {
+            File::Day => write!(f, "day"),
+            File::Clearing => write!(f, "clearing"),
+        }
+    }
+}
+
+fn chosen<'a>(file: File, day: &'a [u8], clearing: &'a [u8]) -> &'a [u8] {
+    match file {
+        File::Day => day,
+        File::Clearing => clearing,
+    }
 }
 
 fn say_changed<W: Write>(
     out: &mut W,
-    file: u8,
+    file: File,
     changed: &[u8],
     day: &[u8],
     clearing: &[u8],
 ) -> io::Result<()> {
-    if file == DAY {
-        say_reading(out, changed, clearing)
-    } else {
-        say_reading(out, day, changed)
+    match file {
+        File::Day => say_reading(out, changed, clearing),
+        File::Clearing => say_reading(out, day, changed),
     }
 }
 
 // The first n bytes, or all where there are fewer.
 fn first<'a>(s: &'a [u8], n: usize) -> &'a [u8] {
-    if n < s.len() { &s[0..n] } else { s }
-}
-
-fn say_cut<'a, W: Write>(
-    out: &mut W,
-    file: u8,
-    n: usize,
-    day: &'a [u8],
-    clearing: &'a [u8],
-) -> io::Result<()> {
-    say_file(out, file)?;
-    print::text(out, b" cut to ")?;
-    print::number(out, n)?;
-    say_changed(
-        out,
-        file,
-        first(chosen(file, day, clearing), n),
-        day,
-        clearing,
-    )
+    &s[..n.min(s.len())]
 }
 
 fn say_cuts<'a, W: Write>(
     out: &mut W,
-    file: u8,
+    file: File,
     day: &'a [u8],
     clearing: &'a [u8],
 ) -> io::Result<()> {
-    for n in 0..chosen(file, day, clearing).len() {
-        say_cut(out, file, n, day, clearing)?;
+    let whole = chosen(file, day, clearing);
+    for n in 0..whole.len() {
+        write!(out, "{file} cut to {n}")?;
+        say_changed(out, file, first(whole, n), day, clearing)?;
     }
     Ok(())
-}
-
-// The byte at i of a file whose byte at `at` is altered, and 0 past its end.
-fn altered_byte(s: &[u8], at: usize, value: u8, i: usize) -> u8 {
-    if i == at {
-        return value;
-    }
-    if i < s.len() { s[i] } else { 0 }
 }
 
 // A file of at most 128 bytes with one of them altered.
@@ -131,27 +100,25 @@ fn altered(s: &[u8], at: usize, value: u8) -> [u8; 128]
     ensures { 128 ≡ length result }
 {
     let mut room = [0u8; 128];
-    for i in 0..128 {
-        room[i] = altered_byte(s, at, value, i);
+    let n = s.len().min(128);
+    room[..n].copy_from_slice(&s[..n]);
+    if at < 128 {
+        room[at] = value;
     }
     room
 }
 
 fn say_edit<'a, W: Write>(
     out: &mut W,
-    file: u8,
+    file: File,
     at: u8,
     value: u8,
     day: &'a [u8],
     clearing: &'a [u8],
 ) -> io::Result<()> {
-    say_file(out, file)?;
-    print::text(out, b" byte ")?;
-    print::number(out, at as usize)?;
-    print::text(out, b" is ")?;
-    print::number(out, value as usize)?;
+    write!(out, "{file} byte {at} is {value}")?;
     let whole = chosen(file, day, clearing);
-    let room = altered(whole, at as usize, value);
+    let room = altered(whole, usize::from(at), value);
     say_changed(out, file, first(&room, whole.len()), day, clearing)
 }
 
@@ -162,10 +129,8 @@ fn say_edits<'a, W: Write>(
     day: &'a [u8],
     clearing: &'a [u8],
 ) -> io::Result<()> {
-    let mut rest = edits;
-    while 3 <= rest.len() {
-        say_edit(out, rest[0], rest[1], rest[2], day, clearing)?;
-        rest = &rest[3..];
+    for edit in edits.chunks_exact(3) {
+        say_edit(out, edit[0].into(), edit[1], edit[2], day, clearing)?;
     }
     Ok(())
 }
@@ -173,26 +138,21 @@ fn say_edits<'a, W: Write>(
 // ---- the look-up
 
 fn say_part<W: Write>(out: &mut W, part: &[u8]) -> io::Result<()> {
-    print::text(out, b" part of ")?;
-    print::number(out, part.len())?;
-    if 0 < part.len() {
-        print::text(out, b" ")?;
+    write!(out, " part of {}", part.len())?;
+    if !part.is_empty() {
+        write!(out, " ")?;
     }
     print::bytes(out, part)?;
-    print::text(out, b"\n")?;
-    Ok(())
+    writeln!(out)
 }
 
-fn say_look_up<W: Write>(out: &mut W, name: &[u8], day: &[u8], section: usize) -> io::Result<()> {
-    print::text(out, name)?;
-    print::text(out, b" section ")?;
-    print::number(out, section)?;
-    print::text(out, b" refused")?;
+fn say_look_up<W: Write>(out: &mut W, name: &str, day: &[u8], section: usize) -> io::Result<()> {
+    write!(out, "{name} section {section} refused")?;
     say_fault(out, lookup::look_up_fault(day, section))?;
     say_part(out, lookup::look_up(day, section))
 }
 
-fn say_look_ups<W: Write>(out: &mut W, name: &[u8], day: &[u8]) -> io::Result<()> {
+fn say_look_ups<W: Write>(out: &mut W, name: &str, day: &[u8]) -> io::Result<()> {
     for section in 0..7 {
         say_look_up(out, name, day, section)?;
     }
@@ -211,7 +171,7 @@ fn loaded<R: fs::Files>(rt: &R, path: &str, room: &mut [u8]) -> usize
 }
 
 fn without_last<'a>(s: &'a [u8]) -> &'a [u8] {
-    if 0 < s.len() { &s[0..s.len() - 1] } else { s }
+    s.split_last().map_or(s, |(_, rest)| rest)
 }
 
 // Each of the two files is lent with one byte more, which stands behind it in its room.
@@ -224,22 +184,22 @@ fn say_all<'a, W: Write>(
     let day = without_last(longer_day);
     let shorter_day = without_last(day);
     let clearing = without_last(longer_clearing);
-    say_named(out, b"day A and clearing A", day, clearing)?;
-    say_named(out, b"day A without its last byte", shorter_day, clearing)?;
-    say_named(out, b"two empty files", b"", b"")?;
-    say_named(out, b"day A with one byte more", longer_day, clearing)?;
-    say_named(out, b"clearing A with one byte more", day, longer_clearing)?;
+    say_named(out, "day A and clearing A", day, clearing)?;
+    say_named(out, "day A without its last byte", shorter_day, clearing)?;
+    say_named(out, "two empty files", b"", b"")?;
+    say_named(out, "day A with one byte more", longer_day, clearing)?;
+    say_named(out, "clearing A with one byte more", day, longer_clearing)?;
     say_named(
         out,
-        b"clearing A with one byte a block",
+        "clearing A with one byte a block",
         day,
         without_last(clearing),
     )?;
-    say_cuts(out, DAY, day, clearing)?;
-    say_cuts(out, CLEARING, day, clearing)?;
+    say_cuts(out, File::Day, day, clearing)?;
+    say_cuts(out, File::Clearing, day, clearing)?;
     say_edits(out, edits, day, clearing)?;
-    say_look_ups(out, b"day A", day)?;
-    say_look_ups(out, b"day A without its last byte", shorter_day)
+    say_look_ups(out, "day A", day)?;
+    say_look_ups(out, "day A without its last byte", shorter_day)
 }
 
 fn main(rt: HostRuntime) -> io::Result<()> {

@@ -6,84 +6,54 @@ ghost use Rattle.verdict.specs.Verdict.{number_of};
 ghost use Rattle.verdict.specs.Verdict as meaning;
 
 use market::Totals;
-use stages::Place;
+use stages::{Place, Refusal};
 use std::io;
 use std::io::Write;
-use verdict::Outcome;
 
-// ---- the verdict and the totals
-
-fn say_verdict<W: Write>(out: &mut W, number: u8, place: Place) -> io::Result<()> {
-    print::text(out, b"verdict")?;
-    print::spaced(out, number as usize)?;
-    print::spaced(out, place.first)?;
-    print::spaced(out, place.second)?;
-    print::spaced(out, place.third)?;
-    print::text(out, b"\n")?;
-    Ok(())
-}
-
-fn say_total<W: Write>(out: &mut W, name: &[u8], v: i64) -> io::Result<()> {
-    print::text(out, name)?;
-    print::signed(out, v)?;
-    print::text(out, b"\n")?;
-    Ok(())
-}
+// ---- the totals
 
 fn say_totals<W: Write>(out: &mut W, t: Totals) -> io::Result<()> {
-    say_total(out, b"order value ", t.value)?;
-    say_total(out, b"buyers ", t.buyers)?;
-    say_total(out, b"sellers ", t.sellers)?;
-    say_total(out, b"rent ", t.rent)?;
-    say_total(out, b"traded ", t.traded)?;
-    say_total(out, b"shortfall ", t.shortfall)
+    writeln!(out, "order value {}", t.value)?;
+    writeln!(out, "buyers {}", t.buyers)?;
+    writeln!(out, "sellers {}", t.sellers)?;
+    writeln!(out, "rent {}", t.rent)?;
+    writeln!(out, "traded {}", t.traded)?;
+    writeln!(out, "shortfall {}", t.shortfall)
 }
 
 // ---- the net positions, as the statement in the room has them
 
+// What a slice holds from a place on; nothing where the place is past its end.
+fn from<'a>(s: &'a [u8], at: usize) -> &'a [u8] {
+    s.get(at..).unwrap_or(b"")
+}
+
 fn u16_or_zero(s: &[u8], at: usize) -> usize
     ensures { result < 65536 }
 {
-    if 2 <= s.len() {
-        if at <= s.len() - 2 {
-            return wire::u16_at(s, at);
-        }
+    let rest = from(s, at);
+    if 2 <= rest.len() {
+        wire::u16_at(rest, 0)
+    } else {
+        0
     }
-    0
 }
 
 fn i32_or_zero(s: &[u8], at: usize) -> i64 {
-    if 4 <= s.len() {
-        if at <= s.len() - 4 {
-            return wire::i32_at(s, at);
-        }
+    let rest = from(s, at);
+    if 4 <= rest.len() {
+        wire::i32_at(rest, 0)
+    } else {
+        0
     }
-    0
-}
-
-fn say_net<W: Write>(
-    out: &mut W,
-    codes: &[u8],
-    room: &[u8],
-    periods: usize,
-    k: usize,
-) -> io::Result<()>
-    requires { (0 < periods) × (k < 65536) }
-{
-    print::text(out, b"net ")?;
-    print::number(out, u16_or_zero(codes, 2 * (k / periods)))?;
-    print::text(out, b" ")?;
-    print::number(out, k % periods)?;
-    print::text(out, b" ")?;
-    print::signed(out, i32_or_zero(room, 52 + 4 * k))?;
-    print::text(out, b"\n")?;
-    Ok(())
 }
 
 fn say_nets<W: Write>(out: &mut W, codes: &[u8], room: &[u8], periods: usize) -> io::Result<()> {
     if 0 < periods {
         for k in 0..u16_or_zero(room, 50) {
-            say_net(out, codes, room, periods, k)?;
+            let code = u16_or_zero(codes, 2 * (k / periods));
+            let net = i32_or_zero(room, 52 + 4 * k);
+            writeln!(out, "net {code} {} {net}", k % periods)?;
         }
     }
     Ok(())
@@ -92,25 +62,22 @@ fn say_nets<W: Write>(out: &mut W, codes: &[u8], room: &[u8], periods: usize) ->
 // ---- the outcome of a check of a day file, and the room that was lent to it
 
 // Gives the number that it printed.
-pub fn outcome<W: Write>(out: &mut W, outcome: Outcome, day: &[u8], room: &[u8]) -> io::Result<u8>
+pub fn outcome<W: Write>(
+    out: &mut W,
+    outcome: Result<Totals, Refusal>,
+    day: &[u8],
+    room: &[u8],
+) -> io::Result<u8>
     ensures { IfOk result (λ n. n ≡ number_of outcome) }
 {
     match outcome {
-        Outcome::Refused(number, place) => {
-            say_verdict(out, number, place)?;
-            Ok(number)
+        Err(refusal) => {
+            writeln!(out, "verdict {refusal}")?;
+            Ok(refusal.number())
         }
-        Outcome::Accepted(t) => {
-            say_verdict(
-                out,
-                0,
-                Place {
-                    first: 0,
-                    second: 0,
-                    third: 0,
-                },
-            )?;
-            say_totals(out, t)?;
+        Ok(totals) => {
+            writeln!(out, "verdict 0 {}", Place::new(0, 0))?;
+            say_totals(out, totals)?;
             say_nets(
                 out,
                 lookup::look_up(day, 2),

@@ -4,8 +4,6 @@
 // file and of the clearing file. A room is filled with the byte 170 before it is lent.
 #![tactic(auto)]
 
-ghost use Rattle.std.specs.Prelude.{◌≡◌, length};
-
 use std::io::{Read, Write};
 use std::{fs, io};
 
@@ -14,12 +12,6 @@ const MOST_PAIRS: usize = 2000;
 const FILL: u8 = 170;
 
 // ---- one pair
-
-fn filled() -> [u8; 65536]
-    ensures { 65536 ≡ length result }
-{
-    [FILL; 65536]
-}
 
 fn say_room<W: Write>(out: &mut W, room: &[u8]) -> io::Result<()> {
     print::text(out, b"room ")?;
@@ -43,7 +35,7 @@ fn judge_next<R: Read, W: Write>(
 ) -> io::Result<()> {
     let mut day = [0u8; 65536];
     let mut clearing = [0u8; 65536];
-    let mut room = filled();
+    let mut room = [FILL; 65536];
     input::read_full(file, input::front_mut(&mut day, day_length));
     input::read_full(file, input::front_mut(&mut clearing, clearing_length));
     judge(
@@ -74,7 +66,7 @@ fn judge_one<R: Read, W: Write>(out: &mut W, file: &mut R) -> io::Result<bool> {
 fn judge_all<R: Read, W: Write>(out: &mut W, file: &mut R) -> io::Result<()> {
     for _ in 0..MOST_PAIRS {
         if !judge_one(out, file)? {
-            return Ok(());
+            break;
         }
     }
     Ok(())

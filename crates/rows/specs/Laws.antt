@@ -3,13 +3,13 @@ use Rattle.std.specs.Prelude.{ℕ, suc, ◌+◌, ◌*◌, ◌≤◌, ◌≡◌, 
 use Rattle.std.proofs.Common.{arith}
 use Rattle.stages.specs.First.{every, or_else, bad_at, first_bad}
 use Rattle.stages.proofs.FirstLaws.{every_first}
-use Rattle.stages.specs.declared.Found.TheVariants.{At, Nothing}
 use Rattle.limits.specs.Fields.{only, counted_on, first_behind, every_behind, first_with_last, every_with_last}
 use Rattle.limits.specs.Rules.{ends_rule, block_rule}
 use Rattle.limits.specs.Limits.{is_volume}
 use Rattle.rows.specs.Rows.{row_size, row_start, field_count, row_fields, field_ok, from, to, capacity, line_fields}
 use Rattle.rows.specs.Rows.{block_zone, block_side, block_least, block_price, block_quantity, empty, block_by_itself, block_fields}
 use Rattle.rows.specs.declared.Kind.{Kind}
+use Rattle.std.specs.Prelude.{Some, None}
 
 -- ---- a line
 
@@ -56,10 +56,10 @@ module _ (periods zones : ℕ) (part : List ℕ) (at : ℕ) where
   abbrev none_ok : ℕ → Bool
   none_ok period = leb (block_quantity part at period) 0
 
-  pub some_quantity : {k : ℕ} → At k ≡ first_bad periods none_ok → Nothing ≡ bad_at some (3 + periods)
+  pub some_quantity : {k : ℕ} → Some k ≡ first_bad periods none_ok → None ≡ bad_at some (3 + periods)
   some_quantity e = rw (every_first periods none_ok, ← e)
 
-  pub no_quantity : Nothing ≡ first_bad periods none_ok → At (3 + periods) ≡ bad_at some (3 + periods)
+  pub no_quantity : None ≡ first_bad periods none_ok → Some (3 + periods) ≡ bad_at some (3 + periods)
   no_quantity e = rw (every_first periods none_ok, ← e)
 
 -- ---- a row by its kind, from where it starts

@@ -6,14 +6,13 @@ use Rattle.whole.specs.Whole.{◌≼◌}
 use Rattle.whole.specs.Ring.{le_z_true}
 use Rattle.stages.specs.First.{every, Says, first_bad, found_nothing, every_is, both, apart, leb_is, leb_false_is, ltb_is, eqb_is, not_is}
 use Rattle.stages.proofs.FirstLaws.{says, every_first}
-use Rattle.stages.specs.declared.Found.{Found}
-use Rattle.stages.specs.declared.Found.TheVariants.{At, Nothing}
 use Rattle.limits.specs.Limits.{most_price, most_flow, most_volume, most_ratio, is_price, is_flow}
 use Rattle.rows.specs.Laws.{line_split, block_split}
 use Rattle.rows.specs.Rows.{row_start, field_ok, row_ok, floor, ceiling, code, code_before, from, to, forward, back}
 use Rattle.rows.specs.Rows.{step_zone, step_period, step_side, step_spare, step_price, step_quantity}
 use Rattle.rows.specs.Rows.{block_zone, block_side, block_least, block_price, block_quantity}
 use Rattle.rows.specs.declared.Kind.TheVariants.{Periods, Zones, Lines, Steps, Blocks, Prices, Flows, Volumes, Ratios}
+use Rattle.std.specs.Prelude.{Option, Some, None}
 
 -- ---- what is meant
 
@@ -69,9 +68,9 @@ not_every_is n t = (
   λ h. (not_is (every n t)).1 (λ e. apart ((every_is n t).0 e h.0 h.1.0) h.1.1),
 )
   where
-    by : (f : Found) → Says n t f → not (found_nothing f) ≡ true → (j : ℕ) × ((j < n) × (t j ≡ false))
-    by (At k) s e = (k, (s.0, s.1.0))
-    by Nothing s e = apart e refl
+    by : (f : Option ℕ) → Says n t f → not (found_nothing f) ≡ true → (j : ℕ) × ((j < n) × (t j ≡ false))
+    by (Some k) s e = (k, (s.0, s.1.0))
+    by None s e = apart e refl
 
 price_is : (p : ℤ) → (is_price p ≡ true) ↔ IsPrice p
 price_is p = simp (both, le_z_true) (λ h. search, λ h. search)

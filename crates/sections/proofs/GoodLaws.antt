@@ -5,9 +5,10 @@ use Rattle.std.proofs.Common.{arith, ap, inl, inr, ⊎_elim, leb-true, le-leb}
 use Rattle.stages.specs.First.{every_is, both}
 use Rattle.stages.specs.Stage.{Stage, once, place, field_place, Holds, BrokenAt, Means, broken_here}
 use Rattle.stages.specs.declared.Place.{Place}
-use Rattle.stages.specs.declared.Fault.TheVariants.{Broken, Clean}
 use Rattle.sections.specs.Section.{Numbers, between, count, table, section}
 use Rattle.sections.specs.Good.{GoodSection, Head, head, with_rows_lem, FirstBad, OwnNumber}
+use Rattle.std.specs.Prelude.{Err}
+use Rattle.stages.specs.Stage.{clean}
 
 -- that is what the section's stages say
 module _ (numbers : Numbers) (number least most size fields : ℕ) (ok : ℕ → ℕ → Bool) (part : List ℕ) where
@@ -43,7 +44,7 @@ module _ (numbers : Numbers) (number least most size fields : ℕ) (ok : ℕ →
   )
 
   -- clean
-  pub section_clean : Means (section numbers number least most size fields ok part) Clean ↔ GoodSection least most size fields ok part
+  pub section_clean : Means (section numbers number least most size fields ok part) clean ↔ GoodSection least most size fields ok part
   section_clean = (
     λ m. with_rows_lem (head_of_lem m.0 m.1.0 m.1.1.0) (λ i l. (every_is fields (ok i)).1 (λ f k. m.1.1.1.0 i f l k)),
     λ g. of_head (head g) (λ i f l k. (every_is fields (ok i)).0 (g.rows i l) f k, tt),
@@ -70,7 +71,7 @@ module _ (numbers : Numbers) (number least most size fields : ℕ) (ok : ℕ →
       },
     )
 
-    pub section_bad : Means (section numbers number least most size fields ok part) (Broken numbers.bad (field_place s row field)) ↔ First
+    pub section_bad : Means (section numbers number least most size fields ok part) (Err (numbers.bad, field_place s row field)) ↔ First
     section_bad = (
       λ m. ⊎_elim (λ b. absurd (own.0 b.number)) (λ m1.
           ⊎_elim (λ b. absurd (own.1 b.number)) (λ m2.

@@ -4,8 +4,9 @@ use Rattle.std.proofs.Common.{arith, ⊎_elim, length-drop, leb-true, le-leb}
 use Rattle.stages.specs.First.{every}
 use Rattle.stages.specs.Stage.{Means}
 use Rattle.stages.specs.declared.Place.{Place}
-use Rattle.stages.specs.declared.Fault.TheVariants.{Broken, Clean}
 use Rattle.sections.specs.Section.{Numbers, count, after, ended}
+use Rattle.std.specs.Prelude.{Err}
+use Rattle.stages.specs.Stage.{clean}
 
 -- its count is there and within its limits, the file has room for all rows, and each row obeys its rule: each of its fields passes its test
 pub record GoodSection (least most size fields : ℕ) (ok : ℕ → ℕ → Bool) (part : List ℕ) : Type 0 where
@@ -46,14 +47,14 @@ abbrev pub OwnNumber : Numbers → Type 0
 OwnNumber numbers = ¬ (numbers.cut ≡ numbers.bad) × ¬ (numbers.beyond ≡ numbers.bad)
 
 -- nothing comes after the last section
-pub ended_clean : (number : ℕ) (part : List ℕ) → Means (ended number part) Clean ↔ (length part ≡ 0)
+pub ended_clean : (number : ℕ) (part : List ℕ) → Means (ended number part) clean ↔ (length part ≡ 0)
 ended_clean number part = (
   λ m. let l = leb-true (length part) 0 (m.0 0 0 (omega arith) (omega arith)) in omega arith,
   λ e. (λ z i _ _. le-leb (length part) 0 (omega arith), tt),
 )
 
 -- that is refused with its own number
-pub ended_other : (number : ℕ) (part : List ℕ) (k : ℕ) (p : Place) → ¬ (number ≡ k) → Means (ended number part) (Broken k p) ↔ ⊥
+pub ended_other : (number : ℕ) (part : List ℕ) (k : ℕ) (p : Place) → ¬ (number ≡ k) → Means (ended number part) (Err (k, p)) ↔ ⊥
 ended_other number part k p other = (λ m. ⊎_elim (λ b. other b.number) (λ r. r.1) m, λ z. absurd z)
 
 -- a section and what is left after it make up the part

@@ -2,16 +2,16 @@
 #![tactic(auto)]
 
 ghost use Rattle.std.specs.Prelude.{◌≡◌, ◌+◌, ◌*◌, ◌≤◌, ◌<◌, length, take, drop};
-ghost use Rattle.sections.specs.Section.{onward};
-ghost use Rattle.sections.specs.Answer.{head_of, reading_of};
+ghost use Rattle.stages.specs.Number.{number};
+ghost use Rattle.stages.specs.Stage.{first_fault};
+ghost use Rattle.sections.specs.Section.{onward, ended};
+ghost use Rattle.sections.specs.Answer.{head_of, reading_of, numbers_of};
 
-use stages::Place;
+use stages::{Broken, Place, Refusal};
 
-// What the reader of a section answers.
-#[derive(Clone, Copy)]
-pub enum Section {
-    // It reads without fault, and has so many rows.
-    Rows(usize),
+// Why a section cannot be read.
+#[derive(Clone, Copy, Debug, PartialEq, Eq)]
+pub enum SectionFault {
     // The file ends inside its count or its rows.
     CutOff,
     // Its count is beyond its limits.
@@ -20,65 +20,56 @@ pub enum Section {
     BadRow(usize, usize),
 }
 
-// The same, with the number and the place of the fault, as the section's file gives them.
-#[derive(Clone, Copy)]
-pub enum Reading {
-    Good(usize),
-    Refused(u8, Place),
+// What is broken where a section of a file cannot be read.
+#[derive(Clone, Copy, Debug, PartialEq, Eq)]
+pub struct Faults {
+    pub cut: Broken,
+    pub beyond: Broken,
+    pub bad: Broken,
 }
 
-// The answer of a section with this number, in a file whose three kinds of fault have these numbers.
-pub fn named(answer: Section, number: usize, cut: u8, beyond: u8, bad: u8) -> Reading
-    ensures { result ≡ reading_of (record { cut = cut; beyond = beyond; bad = bad }) number answer }
+// The answer of a section with this number, as the section's file gives it.
+pub fn named(
+    answer: Result<usize, SectionFault>,
+    number: usize,
+    faults: Faults,
+) -> Result<usize, Refusal>
+    ensures { result ≡ reading_of (numbers_of faults) number answer }
 {
-    match answer {
-        Section::Rows(n) => Reading::Good(n),
-        Section::CutOff => Reading::Refused(
-            cut,
-            Place {
-                first: number,
-                second: 0,
-                third: 0,
-            },
-        ),
-        Section::Beyond => Reading::Refused(
-            beyond,
-            Place {
-                first: number,
-                second: 0,
-                third: 0,
-            },
-        ),
-        Section::BadRow(i, f) => Reading::Refused(
-            bad,
-            Place {
-                first: number,
-                second: i,
-                third: f,
-            },
-        ),
-    }
+    answer.map_err(|fault| match fault {
+        SectionFault::CutOff => Refusal::new(faults.cut, Place::new(number, 0)),
+        SectionFault::Beyond => Refusal::new(faults.beyond, Place::new(number, 0)),
+        SectionFault::BadRow(i, f) => Refusal::new(faults.bad, Place::of_field(number, i, f)),
+    })
 }
 
 // The count, its limit, and room for all rows.
-pub fn read_head(part: &[u8], least: usize, most: usize, size: usize) -> Section
+pub fn read_head(part: &[u8], least: usize, most: usize, size: usize) -> Result<usize, SectionFault>
     requires { size < 65536 }
     ensures { result ≡ head_of least most size part.now }
 {
     if part.len() < 2 {
-        return Section::CutOff;
+        return Err(SectionFault::CutOff);
     }
     let n = wire::u16_at(part, 0);
-    if n < least {
-        return Section::Beyond;
-    }
-    if most < n {
-        return Section::Beyond;
+    if n < least || most < n {
+        return Err(SectionFault::Beyond);
     }
     if part.len() - 2 < size * n {
-        return Section::CutOff;
+        return Err(SectionFault::CutOff);
     }
-    Section::Rows(n)
+    Ok(n)
+}
+
+// Nothing may come after the last section.
+pub fn read_end(part: &[u8], broken: Broken) -> Result<(), Refusal>
+    ensures { result ≡ first_fault (ended (number broken) part.now) }
+{
+    if part.is_empty() {
+        Ok(())
+    } else {
+        Err(Refusal::new(broken, Place::new(0, 0)))
+    }
 }
 
 // What is left of a file after a section of n rows.

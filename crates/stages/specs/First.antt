@@ -2,8 +2,7 @@
 use Rattle.std.specs.Prelude.{ℕ, zero, suc, ◌<◌, ◌≤◌, ◌≡◌, refl, ◌↔◌, Bool, true, false, ◌&&◌, not, leb, ltb, eqb}
 use Rattle.std.proofs.Common.{le_of_suc-le-suc, not-suc-le-zero, eq-or-lt_of_le, arith, ⊎_elim, leb-true, leb-false, le-leb, ltb-true, lt-ltb, eqb-true, eq-eqb}
 use Rattle.std.proofs.lemmas.Bool.{lt-leb}
-use Rattle.stages.specs.declared.Found.{Found}
-use Rattle.stages.specs.declared.Found.TheVariants.{At, Nothing}
+use Rattle.std.specs.Prelude.{Option, Some, None}
 
 -- ---- what is meant
 
@@ -13,24 +12,24 @@ every zero t = true
 every (suc n) t = every n t && t n
 
 -- the first of two answers that found something
-abbrev pub or_else : Found → Found → Found
-or_else (At k) b = At k
-or_else Nothing b = b
+abbrev pub or_else : Option ℕ → Option ℕ → Option ℕ
+or_else (Some k) b = Some k
+or_else None b = b
 
 -- what a test at k finds
-abbrev pub bad_at : Bool → ℕ → Found
-bad_at true k = Nothing
-bad_at false k = At k
+abbrev pub bad_at : Bool → ℕ → Option ℕ
+bad_at true k = None
+bad_at false k = Some k
 
 -- the first row below n at which the test fails
-abbrev pub first_bad : ℕ → (ℕ → Bool) → Found
-first_bad zero t = Nothing
+abbrev pub first_bad : ℕ → (ℕ → Bool) → Option ℕ
+first_bad zero t = None
 first_bad (suc n) t = or_else (first_bad n t) (bad_at (t n) n)
 
 -- what an answer says. Nothing: the test holds at each row below n. At k: it fails at k, which is below n, and holds at each row before
-abbrev pub Says : ℕ → (ℕ → Bool) → Found → Type 0
-Says n t Nothing = (j : ℕ) → j < n → t j ≡ true
-Says n t (At k) = (k < n) × ((t k ≡ false) × ((j : ℕ) → j < k → t j ≡ true))
+abbrev pub Says : ℕ → (ℕ → Bool) → Option ℕ → Type 0
+Says n t None = (j : ℕ) → j < n → t j ≡ true
+Says n t (Some k) = (k < n) × ((t k ≡ false) × ((j : ℕ) → j < k → t j ≡ true))
 
 -- ---- two answers of a test that differ
 
@@ -63,7 +62,7 @@ not_is false = (λ _ e. apart e refl, λ _. refl)
 
 -- the test holds at each row below i. A record, so that a law's t and i are read off what it is handed
 pub record Passed (t : ℕ → Bool) (i : ℕ) : Type 0 where
-  pub nothing : first_bad i t ≡ Nothing
+  pub nothing : first_bad i t ≡ None
 
 -- ---- every row
 
@@ -77,6 +76,6 @@ every_is (suc n) t = (
 )
 
 -- what a search for a row that fails tells: nothing found, so every row passes; one found, so not every row does
-abbrev pub found_nothing : Found → Bool
-found_nothing (At k) = false
-found_nothing Nothing = true
+abbrev pub found_nothing : Option ℕ → Bool
+found_nothing (Some k) = false
+found_nothing None = true

@@ -1,3 +1,5 @@
+-- The rule paper's numbers of what is broken.
+pub mod Number
 -- The first row at which a test fails.
 pub mod First
 -- The first cell of a table at which a test fails, row by row.
@@ -6,3 +8,5 @@ pub mod Table
 pub mod Stage
 -- Which numbers a list of stages refuses with, and lists whose stages have their turns in order.
 pub mod Lists
+-- A place and a refusal as they are printed.
+pub mod Text

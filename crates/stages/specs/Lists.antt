@@ -4,7 +4,8 @@ use Rattle.std.specs.Prelude.{ℕ, suc, ◌<◌, ◌≤◌, ◌≡◌, cond, ◌
 use Rattle.std.proofs.Common.{arith, ap, subst, inl, inr, ⊎_elim}
 use Rattle.stages.specs.Stage.{Stage, Holds, BrokenAt, Means}
 use Rattle.stages.specs.declared.Place.{Place}
-use Rattle.stages.specs.declared.Fault.TheVariants.{Broken, Clean}
+use Rattle.std.specs.Prelude.{Err}
+use Rattle.stages.specs.Stage.{clean}
 
 -- ---- what is meant
 
@@ -52,7 +53,7 @@ behind {A} {H} {M} {B} {C} {D} r = (apart, together)
     together (inr d) = inr (d.0.0, r.1 (inr (d.0.1, d.1)))
 
 pub broken-++ : (xs ys : List Stage) (k : ℕ) (p : Place) →
-    Means (xs ++ ys) (Broken k p) ↔ (Means xs (Broken k p) ⊎ (Means xs Clean × Means ys (Broken k p)))
+    Means (xs ++ ys) (Err (k, p)) ↔ (Means xs (Err (k, p)) ⊎ (Means xs clean × Means ys (Err (k, p))))
 broken-++ [] ys k p = (λ m. inr (tt, m), λ m. ⊎_elim (λ b. absurd b) (λ d. d.1) m)
 broken-++ (s ∷ xs) ys k p = behind (broken-++ xs ys k p)
 
@@ -73,26 +74,26 @@ each_so P Q (s ∷ ss) f h = (f s h.0, each_so P Q ss f h.1)
 
 -- ---- a list refuses with the number of one of its stages
 
-pub numbered : (P : ℕ → Type 0) (ss : List Stage) → Numbers P ss → (k : ℕ) (p : Place) → Means ss (Broken k p) → P k
+pub numbered : (P : ℕ → Type 0) (ss : List Stage) → Numbers P ss → (k : ℕ) (p : Place) → Means ss (Err (k, p)) → P k
 numbered P [] h k p m = absurd m
 numbered P (s ∷ ss) h k p (inl b) = subst P b.number h.0
 numbered P (s ∷ ss) h k p (inr m) = numbered P ss h.1 k p m.1
 
 -- and with one of its places
 pub placed : (P : ℕ → Place → Type 0) (ss : List Stage) → Each (λ (s : Stage). (z i : ℕ) → P s.number (s.named z i)) ss →
-    (k : ℕ) (p : Place) → Means ss (Broken k p) → P k p
+    (k : ℕ) (p : Place) → Means ss (Err (k, p)) → P k p
 placed P [] h k p m = absurd m
 placed P (s ∷ ss) h k p (inl b) = subst (P k) b.named (subst (λ (n : ℕ). P n (s.named b.row b.col)) b.number (h.0 b.row b.col))
 placed P (s ∷ ss) h k p (inr m) = placed P ss h.1 k p m.1
 
 -- of two lists, a fault with a number that one does not have is the other's
 module _ (xs ys : List Stage) (k : ℕ) (p : Place) (P : ℕ → Type 0) (other : ¬ P k) where
-  pub in_first : Numbers P ys → Means (xs ++ ys) (Broken k p) ↔ Means xs (Broken k p)
+  pub in_first : Numbers P ys → Means (xs ++ ys) (Err (k, p)) ↔ Means xs (Err (k, p))
   in_first n =
       let b = broken-++ xs ys k p in
       (λ m. ⊎_elim (λ x. x) (λ y. absurd (other (numbered P ys n k p y.1))) (b.0 m), λ m. b.1 (inl m))
 
-  pub in_second : Numbers P xs → Means (xs ++ ys) (Broken k p) ↔ (Means xs Clean × Means ys (Broken k p))
+  pub in_second : Numbers P xs → Means (xs ++ ys) (Err (k, p)) ↔ (Means xs clean × Means ys (Err (k, p)))
   in_second n =
       let b = broken-++ xs ys k p in
       (λ m. ⊎_elim (λ x. absurd (other (numbered P xs n k p x))) (λ y. y) (b.0 m), λ m. b.1 (inr m))
@@ -113,29 +114,29 @@ module _ (turn : ℕ → ℕ) where
     above = turns_from (suc (turn s.number)) ss a.1
 
     -- a refusal with the first stage's number is its own, and no stage has its turn before it
-    first_broken : (p : Place) → Means (s ∷ ss) (Broken s.number p) ↔ (BrokenAt s s.number p × EarlierHold s (s ∷ ss))
+    first_broken : (p : Place) → Means (s ∷ ss) (Err (s.number, p)) ↔ (BrokenAt s s.number p × EarlierHold s (s ∷ ss))
     first_broken p = (to, λ m. inl m.0)
       where
-        to : Means (s ∷ ss) (Broken s.number p) → BrokenAt s s.number p × EarlierHold s (s ∷ ss)
+        to : Means (s ∷ ss) (Err (s.number, p)) → BrokenAt s s.number p × EarlierHold s (s ∷ ss)
         to (inl b) = (b, (λ l. absurd (omega (arith, l)), each_so _ _ ss (λ t h l. absurd (omega (arith, h, l))) above))
         to (inr m) = let l = numbered (λ (n : ℕ). turn s.number < turn n) ss above s.number p m.1 in absurd (omega (arith, l))
 
     -- one with a later stage's number is not the first stage's, which holds
-    later_broken : (t : Stage) → In t ss → (p : Place) → Means ss (Broken t.number p) ↔ (BrokenAt t t.number p × EarlierHold t ss) →
-        Means (s ∷ ss) (Broken t.number p) ↔ (BrokenAt t t.number p × EarlierHold t (s ∷ ss))
+    later_broken : (t : Stage) → In t ss → (p : Place) → Means ss (Err (t.number, p)) ↔ (BrokenAt t t.number p × EarlierHold t ss) →
+        Means (s ∷ ss) (Err (t.number, p)) ↔ (BrokenAt t t.number p × EarlierHold t (s ∷ ss))
     later_broken t i p rest = (to, λ m. inr (m.1.0 earlier, rest.1 (m.0, m.1.1)))
       where
         earlier : turn s.number < turn t.number
         earlier = each_in (λ (u : Stage). turn s.number < turn u.number) ss above i
 
-        to : Means (s ∷ ss) (Broken t.number p) → BrokenAt t t.number p × EarlierHold t (s ∷ ss)
+        to : Means (s ∷ ss) (Err (t.number, p)) → BrokenAt t t.number p × EarlierHold t (s ∷ ss)
         to (inl b) = absurd (omega (arith, earlier, ap turn b.number))
         to (inr m) = let r = rest.0 m.1 in (r.0, (λ _. m.0, r.1))
 
   -- A refusal with the number of a stage of the list: that stage is broken there, and the stages whose turn comes before it hold.
   pub in_turn_broken : (k : ℕ) (ss : List Stage) → InTurn turn k ss → (s : Stage) → In s ss → (p : Place) →
-      Means ss (Broken s.number p) ↔ (BrokenAt s s.number p × EarlierHold s ss)
+      Means ss (Err (s.number, p)) ↔ (BrokenAt s s.number p × EarlierHold s ss)
   in_turn_broken k [] a s i p = absurd i
   in_turn_broken k (t ∷ ss) a s (inl e) p =
-      subst (λ (u : Stage). Means (t ∷ ss) (Broken u.number p) ↔ (BrokenAt u u.number p × EarlierHold u (t ∷ ss))) e (first_broken k t ss a p)
+      subst (λ (u : Stage). Means (t ∷ ss) (Err (u.number, p)) ↔ (BrokenAt u u.number p × EarlierHold u (t ∷ ss))) e (first_broken k t ss a p)
   in_turn_broken k (t ∷ ss) a s (inr i) p = later_broken k t ss a s i p (in_turn_broken (suc (turn t.number)) ss a.1 s i p)

@@ -4,11 +4,9 @@
 use Rattle.std.specs.Prelude.{◌≡◌, ◌↔◌, ◌⊎◌, Bool, true, false, List, [], ◌∷◌, ◌++◌, ℕ, ◌<◌}
 use Rattle.std.proofs.Common.{sym, subst, ap, ◌∙◌}
 use Rattle.stages.specs.Table.{first_cell}
-use Rattle.stages.specs.declared.Spot.{Spot}
-use Rattle.stages.specs.declared.Spot.TheVariants.{Cell, Nowhere}
 use Rattle.stages.specs.declared.Place.{Place}
-use Rattle.stages.specs.declared.Fault.{Fault}
-use Rattle.stages.specs.declared.Fault.TheVariants.{Broken, Clean}
+use Rattle.std.specs.Prelude.{Option, Some, None, Result, Ok, Err, ⊤}
+use Rattle.stages.specs.declared.Refusal.{Refusal}
 
 -- ---- what is meant
 
@@ -19,6 +17,13 @@ pub record Stage : Type 0 where
   pub cols : ℕ
   pub test : ℕ → ℕ → Bool
   pub named : ℕ → ℕ → Place
+
+-- what is found of the stages: nothing is broken, or the number and the place of what is
+abbrev pub Fault : Type 0
+Fault = Result ⊤ Refusal
+
+abbrev pub clean : Fault
+clean = Ok tt
 
 -- a place of two numbers, and one that names a field too
 abbrev pub place : ℕ → ℕ → Place
@@ -32,22 +37,31 @@ abbrev pub once : ℕ → Place → Bool → Stage
 once k p b = record { number = k; rows = 1; cols = 1; test = λ z i. b; named = λ z i. p }
 
 -- the first cell at which a stage's test fails
-abbrev pub spot : Stage → Spot
+abbrev pub spot : Stage → Option (ℕ × ℕ)
 spot s = first_cell s.rows s.cols s.test
 
-abbrev pub fault_at : Stage → Spot → Fault → Fault
-fault_at s (Cell z i) rest = Broken s.number (s.named z i)
-fault_at s Nowhere rest = rest
+abbrev pub fault_at : Stage → Option (ℕ × ℕ) → Fault → Fault
+fault_at s (Some (z, i)) rest = Err (s.number, s.named z i)
+fault_at s None rest = rest
 
 -- the first stage's first fault
 abbrev pub first_fault : List Stage → Fault
-first_fault [] = Clean
+first_fault [] = clean
 first_fault (s ∷ ss) = fault_at s (spot s) (first_fault ss)
 
 -- an answer: good where there is no fault, bad with the number and the place where there is one
-abbrev pub answer : {A : Type 0} → A → (ℕ → Place → A) → Fault → A
-answer good bad (Broken k p) = bad k p
-answer good bad Clean = good
+abbrev pub answer : {A : Type 0} → A → (Refusal → A) → Fault → A
+answer good bad (Err r) = bad r
+answer good bad (Ok _) = good
+
+-- what a check gives that has this answer where nothing is broken
+abbrev pub judged : {A : Type 0} → A → List Stage → Result A Refusal
+judged good ss = answer (Ok good) Err (first_fault ss)
+
+-- the fault of a result that is refused with the first fault
+abbrev pub fault_of : {A : Type 0} → Result A Refusal → Fault
+fault_of (Err r) = Err r
+fault_of (Ok _) = clean
 
 -- ---- what an answer means
 
@@ -71,12 +85,12 @@ pub record BrokenAt (s : Stage) (k : ℕ) (p : Place) : Type 0 where
   pub named : s.named row col ≡ p
   pub breaks : Breaks s row col
 
--- Clean: each stage's test holds everywhere. Broken k p: some stage is broken so, and the tests of the stages before it hold everywhere
+-- Clean: each stage's test holds everywhere. A number k and a place p: some stage is broken so, and the tests of the stages before it hold everywhere
 abbrev pub Means : List Stage → Fault → Type 0
-Means [] Clean = Unit
-Means [] (Broken k p) = ⊥
-Means (s ∷ ss) Clean = Holds s × Means ss Clean
-Means (s ∷ ss) (Broken k p) = BrokenAt s k p ⊎ (Holds s × Means ss (Broken k p))
+Means [] (Ok _) = Unit
+Means [] (Err (k, p)) = ⊥
+Means (s ∷ ss) (Ok _) = Holds s × Means ss clean
+Means (s ∷ ss) (Err (k, p)) = BrokenAt s k p ⊎ (Holds s × Means ss (Err (k, p)))
 
 -- ---- a place that says which cell it names
 
@@ -90,11 +104,11 @@ broken_here s row col rows cols {p = p} b =
 -- ---- one list after another
 
 abbrev pub or_fault : Fault → Fault → Fault
-or_fault (Broken k p) f = Broken k p
-or_fault Clean f = f
+or_fault (Err r) f = Err r
+or_fault (Ok _) f = f
 
 -- all of two lists hold
-pub clean-++ : (xs ys : List Stage) → Means (xs ++ ys) Clean ↔ (Means xs Clean × Means ys Clean)
+pub clean-++ : (xs ys : List Stage) → Means (xs ++ ys) clean ↔ (Means xs clean × Means ys clean)
 clean-++ [] ys = (λ m. (tt, m), λ m. m.1)
 clean-++ (s ∷ xs) ys = (
   λ m. let r = (clean-++ xs ys).0 m.1 in ((m.0, r.0), r.1),

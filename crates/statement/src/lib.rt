@@ -27,6 +27,7 @@ fn put_head(room: &mut [u8], totals: Totals, count: u16)
     wire::put_u16(room, 50, count);
 }
 
+// By `as`, which is proved to fit: `TryFrom` would give an error that never comes.
 fn narrow(v: i64) -> i32
     requires { SFits w32 v }
     ensures { result ≡ v }
@@ -60,6 +61,7 @@ fn put_nets(room: &mut [u8], nets: &[i64], n: usize)
     }
 }
 
+// By `as`, as above.
 fn count_of(counts: Counts) -> u16
     requires { InLimits counts }
     ensures { result ≡ net_count counts }

@@ -1,16 +1,16 @@
 -- The laws by which a step is counted. Assumes nothing.
 use Rattle.std.specs.Prelude.{ℕ, ◌+◌, ◌*◌, ◌<◌, ◌≤◌, ◌≡◌, refl, Bool, true, false, ◌&&◌, List, leb, eqb, ℤ, pos, neg_ℤ, nat_abs, ◌+ℤ◌, ◌-ℤ◌, length, get_or}
-use Rattle.std.proofs.Common.{zero-add, le_trans, eq-or-lt_of_le, le_of_suc-le-suc, add-one, arith, sym, ◌∙◌, ⊎_elim, length-set, get_or-set_other, SFits, le-leb}
+use Rattle.std.proofs.Common.{le_trans, eq-or-lt_of_le, le_of_suc-le-suc, add-one, arith, sym, ◌∙◌, ⊎_elim, le-leb}
 use Rattle.std.proofs.Math.IntN.{+ℤ_idr}
 use Rattle.std.proofs.lemmas.List.{set-get_or}
-use Rattle.std.specs.Int.{w64}
 use Rattle.whole.specs.Whole.{◌≼◌, ◌≺◌, sum, at}
 use Rattle.whole.specs.Ring.{given, linear, ring, le_z_true, le_z_false}
 use Rattle.whole.proofs.Sums.{sum_next}
-use Rattle.whole.proofs.Size.{fits_i64, abs_le, abs-+, abs--, abs-*-≤, at_size, sum_within}
+use Rattle.whole.proofs.Size.{abs_le, abs--, abs-*-≤, sum_within}
 use Rattle.stages.specs.First.{both, eqb_is, leb_is}
-use Rattle.cells.specs.Cells.{at_none, at_neg, gained_in_row}
-use Rattle.cells.specs.Cells.{Within, Gained, added, buyers, sellers, traded, nothing_gained, gained_at, gained_then, gained_same, within_gained}
+use Rattle.cells.specs.Gains.{SumsWithin, all_within, within_more, gained_next, no_gain as no_sum_gained, within_gained as within_gain}
+use Rattle.cells.specs.declared.Sums.{Sums}
+use Rattle.cells.specs.Cells.{at_neg, Within, Gained, added, nothing_gained, gained_at, gained_then, gained_same, within_gained}
 use Rattle.limits.specs.Limits.{most_price, most_volume}
 use Rattle.market.specs.Market.{step_trade}
 use Rattle.market.specs.Rules.{full_or_none, step_ok, test}
@@ -29,15 +29,13 @@ use Rattle.book.specs.Book.{prices_of, step_of, volume_of}
 use Rattle.book.specs.Framed.{Framed, PricesSmall}
 use Rattle.steps.specs.Sure.{SureStep, StepCounted, StepsCounted, counted, brings, gives}
 
--- ---- what is known before the walk, and of its tables: their lengths, and how much they hold at the most
+-- ---- what is known before the walk, and how much its table and the sums hold at the most
 
-pub record Ready (c : Counts) (day clearing : List ℕ) (bound : ℕ) (nets sums : List ℤ) : Type 0 where
+pub record Ready (c : Counts) (day clearing : List ℕ) (bound : ℕ) (nets : List ℤ) (sums : Sums) : Type 0 where
   pub framed : Framed day clearing c
   pub prices : PricesSmall c clearing
-  pub nets_long : length nets ≡ 200
-  pub sums_long : length sums ≡ 5
   pub nets_within : Within c.zones c.periods bound nets
-  pub sums_within : Within 1 5 bound sums
+  pub sums_within : SumsWithin bound sums
 
 -- before the first step, and before any
 abbrev pub most : ℕ
@@ -47,11 +45,10 @@ abbrev pub full : ℕ
 full = 2000000000000000000
 
 -- of one cell, and of one step's numbers
-pub record Room (cell : ℕ) (nets sums : List ℤ) : Type 0 where
+pub record Room (cell : ℕ) (nets : List ℤ) (sums : Sums) : Type 0 where
   pub cell_is : cell < length nets
   pub cell_within : nat_abs (get_or nets cell (pos 0)) ≤ full
-  pub sums_long : length sums ≡ 5
-  pub sums_within : Within 1 5 full sums
+  pub sums_within : SumsWithin full sums
 
 pub record Near (limit price : ℤ) (quantity : ℕ) : Type 0 where
   pub limit_small : nat_abs limit ≤ most_price
@@ -60,18 +57,18 @@ pub record Near (limit price : ℤ) (quantity : ℕ) : Type 0 where
 
 -- ---- what one step changes
 
-pub record SoldAt (limit price : ℤ) (quantity volume cell : ℕ) (nets nets' sums sums' : List ℤ) : Type 0 where
+pub record SoldAt (limit price : ℤ) (quantity volume cell : ℕ) (nets nets' : List ℤ) (sums sums' : Sums) : Type 0 where
   pub kept : (full_or_none limit price quantity volume && leb volume quantity) ≡ true
   pub nets_is : nets' ≡ added nets cell (pos volume)
-  pub sums_is : sums' ≡ added sums sellers (gain price limit volume)
+  pub sums_is : sums' ≡ record sums { sellers = sums.sellers +ℤ gain price limit volume }
 
-pub record BoughtAt (limit price : ℤ) (quantity volume cell : ℕ) (nets nets' sums sums' : List ℤ) : Type 0 where
+pub record BoughtAt (limit price : ℤ) (quantity volume cell : ℕ) (nets nets' : List ℤ) (sums sums' : Sums) : Type 0 where
   pub kept : (full_or_none price limit quantity volume && leb volume quantity) ≡ true
   pub nets_is : nets' ≡ added nets cell (neg_ℤ (pos volume))
-  pub sums_is : sums' ≡ added (added sums buyers (gain limit price volume)) traded (pos volume)
+  pub sums_is : sums' ≡ record sums { buyers = sums.buyers +ℤ gain limit price volume; traded = sums.traded +ℤ pos volume }
 
 -- by the slot of its head: the sells stand first
-pub record CountedAt (slot : ℕ) (limit price : ℤ) (quantity volume cell : ℕ) (nets nets' sums sums' : List ℤ) : Type 0 where
+pub record CountedAt (slot : ℕ) (limit price : ℤ) (quantity volume cell : ℕ) (nets nets' : List ℤ) (sums sums' : Sums) : Type 0 where
   pub sells : slot < 256 → SoldAt limit price quantity volume cell nets nets' sums sums'
   pub buys : 256 ≤ slot → BoughtAt limit price quantity volume cell nets nets' sums sums'
 
@@ -103,14 +100,14 @@ nothing_added table k = rw (+ℤ_idr (get_or table k (pos 0))) (set-get_or table
 no_gain : (get ask : ℤ) → gain get ask 0 ≡ pos 0
 no_gain get ask = simp ring (omega arith)
 
-module _ (limit price : ℤ) (quantity volume cell : ℕ) (nets sums : List ℤ) where
+module _ (limit price : ℤ) (quantity volume cell : ℕ) (nets : List ℤ) (sums : Sums) where
   pub none_sold : price ≺ limit → eqb volume 0 ≡ true → SoldAt limit price quantity volume cell nets nets sums sums
   none_sold h e =
       let none = (eqb_is volume 0).0 e in
       record {
         kept = sym (not_at_all limit price quantity volume h) ∙ e;
         nets_is = rw (none, nothing_added nets cell);
-        sums_is = rw (none, no_gain price limit, nothing_added sums sellers);
+        sums_is = rw (none, no_gain price limit, +ℤ_idr);
       }
 
   pub none_bought : limit ≺ price → eqb volume 0 ≡ true → BoughtAt limit price quantity volume cell nets nets sums sums
@@ -119,29 +116,14 @@ module _ (limit price : ℤ) (quantity volume cell : ℕ) (nets sums : List ℤ)
       record {
         kept = sym (not_at_all price limit quantity volume h) ∙ e;
         nets_is = rw (none, nothing_added nets cell);
-        sums_is = rw (none, no_gain limit price, nothing_added sums buyers, nothing_added sums traded);
+        sums_is = rw (none, no_gain limit price, +ℤ_idr, +ℤ_idr);
       }
 
 -- ---- how large
 
--- what a trade counts fits on top of what a table holds
-pub more_fits : (held x : ℤ) → nat_abs held ≤ full → nat_abs x ≤ 2000000000000 → SFits w64 (held +ℤ x)
-more_fits held x h k = fits_i64 (held +ℤ x) (omega (arith, abs-+ held x))
-
 pub gain_size : (get ask : ℤ) (volume : ℕ) → nat_abs get ≤ most_price → nat_abs ask ≤ most_price → volume ≤ most_volume →
     nat_abs (gain get ask volume) ≤ 2000000000000
 gain_size get ask volume g a v = abs-*-≤ (get -ℤ ask) (pos volume) 2000000 1000000 (omega (arith, abs-- get ask)) v
-
--- a sum, read in its row
-pub held : (sums : List ℤ) → Within 1 5 full sums → (s : ℕ) → s < 5 → nat_abs (get_or sums s (pos 0)) ≤ full
-held sums w s l = rw (zero-add s) at (w 0 s (omega arith) l)
-
--- and in the sum beside one that was added to
-pub beside_fits : (sums rest : List ℤ) (x v : ℤ) → length sums ≡ 5 → Within 1 5 full sums → rest ≡ added sums buyers x → nat_abs v ≤ 2000000000000 →
-    (traded < length rest) × SFits w64 (get_or rest traded (pos 0) +ℤ v)
-beside_fits sums rest x v long w e k =
-    rw (e, length-set sums buyers _, get_or-set_other sums buyers traded _ (pos 0) (λ q. omega (arith, q)))
-    (omega (arith, long), more_fits (get_or sums traded (pos 0)) v (held sums w traded (omega arith)) k)
 
 -- ---- a step's row, and its numbers
 
@@ -162,28 +144,16 @@ module _ {c : Counts} {day clearing : List ℕ} (prices : PricesSmall c clearing
   pub brings_size : SureStep c day clearing i → (zone period : ℕ) → nat_abs (brings c day clearing i zone period) ≤ 2000000000000
   brings_size s zone period = counted_size s (Net zone period)
 
-  pub gives_size : SureStep c day clearing i → (place : ℕ) → nat_abs (gives c day clearing i place) ≤ 6000000000000
-  gives_size s place =
-      let b = at buyers (counted c day clearing Buyers i) place in
-      let a = at sellers (counted c day clearing Sellers i) place in
-      let t = at traded (counted c day clearing Traded i) place in
-      omega (
-        arith,
-        abs-+ (b +ℤ a) t,
-        abs-+ b a,
-        at_size buyers (counted c day clearing Buyers i) place,
-        at_size sellers (counted c day clearing Sellers i) place,
-        at_size traded (counted c day clearing Traded i) place,
-        counted_size s Buyers,
-        counted_size s Sellers,
-        counted_size s Traded,
-      )
+  pub gives_size : SureStep c day clearing i → SumsWithin 2000000000000 (gives c day clearing i)
+  gives_size s = record {
+    buyers = counted_size s Buyers;
+    sellers = counted_size s Sellers;
+    rent = omega arith;
+    traded = counted_size s Traded;
+    shortfall = omega arith;
+  }
 
 -- ---- one step counted
-
--- what is gained in a row of sums, at one place of it
-in_the_row : (s : ℕ) (x : ℤ) {sums sums' : List ℤ} → length sums ≡ 5 → s < 5 → sums' ≡ added sums s x → Gained 1 5 (λ _ k. at s x k) sums sums'
-in_the_row s x {sums} long l e = rw (← e) at (gained_in_row sums s l long x)
 
 module _ (c : Counts) (day clearing : List ℕ) (i : ℕ) where
   -- the tests by which a step is sure, whatever its side
@@ -217,32 +187,40 @@ module _ (c : Counts) (day clearing : List ℕ) (i : ℕ) where
     in_its_cell x e =
         rw (← e) at (gained_at {zones = c.zones} {periods = c.periods} {a = nets} (step_of day i).zone (step_of day i).period inside row.period_is x)
 
-    pub sold_counted : {sums sums' : List ℤ} → length sums ≡ 5 → (step_of day i).side ≡ Sell →
+    pub sold_counted : {sums sums' : Sums} → (step_of day i).side ≡ Sell →
         SoldAt (step_of day i).limit price (step_of day i).quantity (volume_of clearing i) ((step_of day i).zone * c.periods + (step_of day i).period)
         nets nets' sums sums' →
         StepCounted c day clearing i nets nets' sums sums'
-    sold_counted long side s =
+    sold_counted side s =
         let k = (both _ _).0 s.kept in
         record {
           sure = sure_step row (rw side k.0) k.1;
           nets_gain = gained_same (in_its_cell _ s.nets_is) (λ z h _ _. rw (sold_is side (Net z h)));
-          sums_gain = gained_same (in_the_row sellers _ long (omega arith) s.sums_is) (λ _ p _ _.
-              rw (sold_is side Buyers, sold_is side Sellers, sold_is side Traded, at_none, at_none) (simp linear (omega arith)));
+          sums_gain = record {
+            buyers = rw (s.sums_is, sold_is side Buyers) (sym (+ℤ_idr _));
+            sellers = rw (s.sums_is, sold_is side Sellers);
+            rent = rw s.sums_is (sym (+ℤ_idr _));
+            traded = rw (s.sums_is, sold_is side Traded) (sym (+ℤ_idr _));
+            shortfall = rw s.sums_is (sym (+ℤ_idr _));
+          };
         }
 
-    pub bought_counted : {sums sums' : List ℤ} → length sums ≡ 5 → (step_of day i).side ≡ Buy →
+    pub bought_counted : {sums sums' : Sums} → (step_of day i).side ≡ Buy →
         BoughtAt (step_of day i).limit price (step_of day i).quantity (volume_of clearing i) ((step_of day i).zone * c.periods + (step_of day i).period)
         nets nets' sums sums' →
         StepCounted c day clearing i nets nets' sums sums'
-    bought_counted {sums} long side s =
+    bought_counted side s =
         let k = (both _ _).0 s.kept in
         record {
           sure = sure_step row (rw side k.0) k.1;
           nets_gain = gained_same (in_its_cell _ s.nets_is) (λ z h _ _. rw (bought_is side (Net z h), at_neg, at_neg));
-          sums_gain = gained_same
-              (gained_then (in_the_row buyers (gain (step_of day i).limit price (volume_of clearing i)) {sums = sums} long (omega arith) refl)
-              (in_the_row traded _ (rw (length-set sums buyers _) long) (omega arith) s.sums_is))
-              (λ _ p _ _. rw (bought_is side Buyers, bought_is side Sellers, bought_is side Traded, at_none) (simp linear (omega arith)));
+          sums_gain = record {
+            buyers = rw (s.sums_is, bought_is side Buyers);
+            sellers = rw (s.sums_is, bought_is side Sellers) (sym (+ℤ_idr _));
+            rent = rw s.sums_is (sym (+ℤ_idr _));
+            traded = rw (s.sums_is, bought_is side Traded);
+            shortfall = rw s.sums_is (sym (+ℤ_idr _));
+          };
         }
 
 -- ---- the steps one after the other
@@ -265,29 +243,29 @@ lies c day i row = record {
 
 -- numbers in hand, and what they are
 module _ {l l' p p' : ℤ} {q q' k k' : ℕ} (limit : l ≡ l') (price : p ≡ p') (quantity : q ≡ q') (cell : k ≡ k') where
-  pub ready_by : {nets sums : List ℤ} → Near l' p' q' × Room k' nets sums → Near l p q × Room k nets sums
+  pub ready_by : {nets : List ℤ} {sums : Sums} → Near l' p' q' × Room k' nets sums → Near l p q × Room k nets sums
   ready_by h = rw (limit, price, quantity, cell) h
 
-  module _ {v v' : ℕ} (volume : v ≡ v') {nets nets' sums sums' : List ℤ} where
+  module _ {v v' : ℕ} (volume : v ≡ v') {nets nets' : List ℤ} {sums sums' : Sums} where
     pub counted_by : {slot : ℕ} → CountedAt slot l p q v k nets nets' sums sums' → CountedAt slot l' p' q' v' k' nets nets' sums sums'
     counted_by h = rw (limit, price, quantity, cell, volume) at h
 
 module _ {c : Counts} {day clearing : List ℕ} where
-  pub none_counted : {nets sums : List ℤ} → StepsCounted c day clearing 0 nets nets sums sums
+  pub none_counted : {nets : List ℤ} {sums : Sums} → StepsCounted c day clearing 0 nets nets sums sums
   unfolding sum
   none_counted = record {
     sure = λ i l. absurd (omega (arith, l));
     nets_gain = nothing_gained;
-    sums_gain = nothing_gained;
+    sums_gain = no_sum_gained;
   }
 
-  module _ {n : ℕ} {nets nets' sums sums' : List ℤ} (a : StepsCounted c day clearing n nets nets' sums sums') where
-    pub more_counted : {nets'' sums'' : List ℤ} → StepCounted c day clearing n nets' nets'' sums' sums'' →
+  module _ {n : ℕ} {nets nets' : List ℤ} {sums sums' : Sums} (a : StepsCounted c day clearing n nets nets' sums sums') where
+    pub more_counted : {nets'' : List ℤ} {sums'' : Sums} → StepCounted c day clearing n nets' nets'' sums' sums'' →
         StepsCounted c day clearing (n + 1) nets nets'' sums sums''
     more_counted s = record {
       sure = λ i l. ⊎_elim (λ e. rw e s.sure) (λ k. a.sure i k) (eq-or-lt_of_le (le_of_suc-le-suc (rw add-one at l)));
       nets_gain = gained_same (gained_then a.nets_gain s.nets_gain) (λ z h _ _. rw sum_next);
-      sums_gain = gained_same (gained_then a.sums_gain s.sums_gain) (λ _ p _ _. rw sum_next);
+      sums_gain = gained_next n (gives c day clearing) a.sums_gain s.sums_gain;
     }
 
     -- the tables have room for the next
@@ -295,14 +273,12 @@ module _ {c : Counts} {day clearing : List ℕ} where
     still_ready r l = record {
       framed = r.framed;
       prices = r.prices;
-      nets_long = a.nets_gain.long ∙ r.nets_long;
-      sums_long = a.sums_gain.long ∙ r.sums_long;
       nets_within = λ z h b k.
           le_trans (within_gained a.nets_gain r.nets_within
           (λ z h _ _. sum_within n 2000 (λ i. brings c day clearing i z h) 2000000000000 l (λ i j. brings_size r.prices (a.sure i j) z h)) z h b k)
           (omega arith);
-      sums_within = λ z h b k.
-          le_trans (within_gained a.sums_gain r.sums_within
-          (λ _ p _ _. sum_within n 2000 (λ i. gives c day clearing i p) 6000000000000 l (λ i j. gives_size r.prices (a.sure i j) p)) z h b k)
+      sums_within =
+          within_more
+          (within_gain a.sums_gain r.sums_within (all_within n 2000 2000000000000 (gives c day clearing) l (λ i j. gives_size r.prices (a.sure i j))))
           (omega arith);
     }

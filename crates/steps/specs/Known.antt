@@ -14,6 +14,7 @@ use Rattle.rows.specs.declared.Kind.TheVariants.{Steps}
 use Rattle.day.specs.Day.{steps_part}
 use Rattle.day.specs.Good.{InLimits}
 use Rattle.day.specs.declared.Counts.{Counts}
+use Rattle.cells.specs.declared.Sums.{Sums}
 use Rattle.market.specs.declared.Side.TheVariants.{Sell, Buy}
 use Rattle.book.specs.Book.{prices_of, step_of, volume_of}
 use Rattle.steps.specs.Sure.{StepCounted}
@@ -163,11 +164,11 @@ placed c day clearing i limits f e h l k t =
 
 -- counted by its slot, it is counted
 pub placed_counted : (c : Counts) (day clearing : List ℕ) (i : ℕ) {slot place : ℕ} {price : ℤ} → Placed c day clearing i slot price place →
-    {nets nets' sums sums' : List ℤ} → (step_of day i).zone * c.periods + (step_of day i).period < length nets → length sums ≡ 5 →
+    {nets nets' : List ℤ} {sums sums' : Sums} → (step_of day i).zone * c.periods + (step_of day i).period < length nets →
     CountedAt slot (step_of day i).limit (prices_of c clearing (step_of day i).zone (step_of day i).period) (step_of day i).quantity (volume_of clearing i)
     ((step_of day i).zone * c.periods + (step_of day i).period) nets nets' sums sums' → StepCounted c day clearing i nets nets' sums sums'
-placed_counted c day clearing i {slot} p inside long t =
+placed_counted c day clearing i {slot} p inside t =
     ⊎_elim
-    (λ (l : 0 ≡ slot / 256). let k : slot < 256 = omega (arith, l) in sold_counted c day clearing i p.row inside long (p.sells k) (t.sells k))
-    (λ (l : 0 < slot / 256). let k : 256 ≤ slot = omega (arith, l) in bought_counted c day clearing i p.row inside long (p.buys k) (t.buys k))
+    (λ (l : 0 ≡ slot / 256). let k : slot < 256 = omega (arith, l) in sold_counted c day clearing i p.row inside (p.sells k) (t.sells k))
+    (λ (l : 0 < slot / 256). let k : 256 ≤ slot = omega (arith, l) in bought_counted c day clearing i p.row inside (p.buys k) (t.buys k))
     (eq-or-lt_of_le (omega arith))

@@ -1,8 +1,10 @@
 -- A step in which nothing is in doubt: its row obeys its rule, and it keeps the rules 13 and 15; and what steps bring to the net positions and
 -- to the sums. Assumes nothing.
-use Rattle.std.specs.Prelude.{ℕ, ◌<◌, ◌≡◌, true, List, ℤ, ◌+ℤ◌}
-use Rattle.whole.specs.Whole.{sum, at}
-use Rattle.cells.specs.Cells.{Gained, buyers, sellers, traded}
+use Rattle.std.specs.Prelude.{ℕ, ◌<◌, ◌≡◌, true, List, ℤ, pos}
+use Rattle.whole.specs.Whole.{sum}
+use Rattle.cells.specs.Cells.{Gained}
+use Rattle.cells.specs.Gains.{all, SumsGained}
+use Rattle.cells.specs.declared.Sums.{Sums}
 use Rattle.market.specs.Rules.{test}
 use Rattle.market.specs.Measures.{step_measured}
 use Rattle.market.specs.declared.Measure.{Measure}
@@ -25,21 +27,21 @@ module _ (c : Counts) (day clearing : List ℕ) where
   abbrev pub counted : Measure → ℕ → ℤ
   counted = step_measured (day_of c day) (prices_of c clearing) (choice_of c clearing)
 
-  -- what it brings to a zone and period, and to the sum at the place s
+  -- what it brings to a zone and period, and to the sums
   abbrev pub brings : ℕ → ℕ → ℕ → ℤ
   brings i zone period = counted (Net zone period) i
 
-  abbrev pub gives : ℕ → ℕ → ℤ
-  gives i s = at buyers (counted Buyers i) s +ℤ at sellers (counted Sellers i) s +ℤ at traded (counted Traded i) s
+  abbrev pub gives : ℕ → Sums
+  gives i = record { buyers = counted Buyers i; sellers = counted Sellers i; rent = pos 0; traded = counted Traded i; shortfall = pos 0 }
 
   -- one step, from the tables before it to those after it
-  pub record StepCounted (i : ℕ) (nets nets' sums sums' : List ℤ) : Type 0 where
+  pub record StepCounted (i : ℕ) (nets nets' : List ℤ) (sums sums' : Sums) : Type 0 where
     pub sure : SureStep i
     pub nets_gain : Gained c.zones c.periods (brings i) nets nets'
-    pub sums_gain : Gained 1 5 (λ _ s. gives i s) sums sums'
+    pub sums_gain : SumsGained (gives i) sums sums'
 
   -- the first n of them
-  pub record StepsCounted (n : ℕ) (nets nets' sums sums' : List ℤ) : Type 0 where
+  pub record StepsCounted (n : ℕ) (nets nets' : List ℤ) (sums sums' : Sums) : Type 0 where
     pub sure : (i : ℕ) → i < n → SureStep i
     pub nets_gain : Gained c.zones c.periods (λ zone period. sum n (λ i. brings i zone period)) nets nets'
-    pub sums_gain : Gained 1 5 (λ _ s. sum n (λ i. gives i s)) sums sums'
+    pub sums_gain : SumsGained (all n gives) sums sums'

@@ -4,13 +4,13 @@
 ghost use Rattle.std.specs.Prelude.{◌≡◌, true, ◌&&◌, ◌+◌, ◌≤◌, ◌<◌, leb, eqb, pos, length, get_or, set};
 ghost use Rattle.limits.specs.Limits.{is_price, is_quantity};
 ghost use Rattle.wire.specs.Bytes.{u32_at};
-ghost use Rattle.book.specs.Of.{OfClearing};
 ghost use Rattle.market.specs.Rules.{full_or_none};
 ghost use Rattle.steps.specs.Sure.{StepCounted, StepsCounted};
 ghost use Rattle.steps.specs.Count.{Near, Room, SoldAt, BoughtAt, CountedAt, Ready, most, full};
 ghost use Rattle.steps.specs.Known.{Known, FourBytes};
 
-use day::Counts;
+use book::Framed;
+use cells::Sums;
 
 // ---- the heads of the rows: zone, period, side and spare byte, as one number
 
@@ -53,7 +53,7 @@ fn put(
     places[slot] = place;
 }
 
-// A cell is below 200.
+// A cell is below 200. By `as`, which is proved to fit.
 fn small(cell: usize) -> u8
     requires { cell < 200 }
     ensures { result ≡ cell }
@@ -61,22 +61,22 @@ fn small(cell: usize) -> u8
     cell as u8
 }
 
-// The heads of a zone and period: of a sell step, and of a buy step.
+// The heads of a zone and period: of a sell step, and of a buy step. The three tables are lent one by one: owned by a struct they took 2.9 in
+// a hundred instructions more, and 8 in a hundred time.
 fn know(
-    clearing: &[u8],
-    counts: Counts,
+    framed: Framed<'_>,
     zone: usize,
     period: usize,
     heads: &mut [usize],
     prices: &mut [i64],
     places: &mut [u8],
 )
-    requires of_clearing { (OfClearing clearing.now counts) × ((zone < counts.zones) × (period < counts.periods)) }
-    requires known { Known counts clearing.now heads.old prices.old places.old }
-    ensures { Known counts clearing.now heads.new prices.new places.new }
+    requires here { (zone < framed.counts.zones) × (period < framed.counts.periods) }
+    requires known { Known framed.counts framed.clearing.now heads.old prices.old places.old }
+    ensures { Known framed.entry.counts framed.entry.clearing.now heads.new prices.new places.new }
 {
-    let price = book::price_of(clearing, counts, zone, period);
-    let place = small(cells::cell(counts.periods, zone, period));
+    let price = framed.price(zone, period);
+    let place = small(cells::cell(framed.counts.periods, zone, period));
     let slot = period + 32 * zone;
     let head = zone + 256 * period;
     put(heads, prices, places, slot, head, price, place);
@@ -92,51 +92,28 @@ fn know(
 }
 
 fn know_zone(
-    clearing: &[u8],
-    counts: Counts,
+    framed: Framed<'_>,
     zone: usize,
     heads: &mut [usize],
     prices: &mut [i64],
     places: &mut [u8],
 )
-    requires of_clearing { (OfClearing clearing.now counts) × (zone < counts.zones) }
-    requires known { Known counts clearing.now heads.old prices.old places.old }
-    ensures { Known counts clearing.now heads.new prices.new places.new }
+    requires here { zone < framed.counts.zones }
+    requires known { Known framed.counts framed.clearing.now heads.old prices.old places.old }
+    ensures { Known framed.entry.counts framed.entry.clearing.now heads.new prices.new places.new }
 {
-    for period in 0..counts.periods {
-        know(clearing, counts, zone, period, heads, prices, places);
+    for period in 0..framed.counts.periods {
+        know(framed, zone, period, heads, prices, places);
     }
 }
 
-fn know_all(
-    clearing: &[u8],
-    counts: Counts,
-    heads: &mut [usize],
-    prices: &mut [i64],
-    places: &mut [u8],
-)
-    requires of_clearing { OfClearing clearing.now counts }
-    requires known { Known counts clearing.now heads.old prices.old places.old }
-    ensures { Known counts clearing.now heads.new prices.new places.new }
+fn know_all(framed: Framed<'_>, heads: &mut [usize], prices: &mut [i64], places: &mut [u8])
+    requires { Known framed.counts framed.clearing.now heads.old prices.old places.old }
+    ensures { Known framed.entry.counts framed.entry.clearing.now heads.new prices.new places.new }
 {
-    for zone in 0..counts.zones {
-        know_zone(clearing, counts, zone, heads, prices, places);
+    for zone in 0..framed.counts.zones {
+        know_zone(framed, zone, heads, prices, places);
     }
-}
-
-// What the tables say: whether a row's head stands in its slot, so that it is one that the day allows; and its price.
-fn holds(heads: &[usize], slot: usize, head: usize) -> bool
-    requires { slot < length heads.now }
-    ensures { result ≡ eqb (get_or heads.now slot 0) head }
-{
-    heads[slot] == head
-}
-
-fn price_in(prices: &[i64], slot: usize) -> i64
-    requires { slot < length prices.now }
-    ensures { result ≡ get_or prices.now slot (pos 0) }
-{
-    prices[slot]
 }
 
 // ---- one step
@@ -161,6 +138,8 @@ fn taken_ok(ask: i64, get: i64, quantity: u32, volume: u32) -> bool
     volume <= quantity
 }
 
+// A function for each side: they add to other sums.
+
 // A sell step is counted: its surplus to the sellers', its volume to its zone and period. One that gets less than it asks counts nothing.
 fn count_sold(
     limit: i64,
@@ -168,8 +147,8 @@ fn count_sold(
     quantity: u32,
     volume: u32,
     cell: usize,
-    nets: &mut [i64],
-    sums: &mut [i64],
+    nets: &mut [i64; 200],
+    sums: &mut Sums,
 ) -> bool
     requires { (Near limit price quantity) × (Room cell nets.old sums.old) }
     ensures { result ≡ true → SoldAt limit price quantity volume cell nets.old nets.new sums.old sums.new }
@@ -180,7 +159,7 @@ fn count_sold(
     if !taken_ok(limit, price, quantity, volume) {
         return false;
     }
-    cells::add_at(sums, cells::SELLERS, market::gain(price, limit, volume));
+    sums.sellers += market::gain(price, limit, volume);
     cells::add_at(nets, cell, market::wide(volume));
     true
 }
@@ -193,8 +172,8 @@ fn count_bought(
     quantity: u32,
     volume: u32,
     cell: usize,
-    nets: &mut [i64],
-    sums: &mut [i64],
+    nets: &mut [i64; 200],
+    sums: &mut Sums,
 ) -> bool
     requires { (Near limit price quantity) × (Room cell nets.old sums.old) }
     ensures { result ≡ true → BoughtAt limit price quantity volume cell nets.old nets.new sums.old sums.new }
@@ -205,8 +184,8 @@ fn count_bought(
     if !taken_ok(price, limit, quantity, volume) {
         return false;
     }
-    cells::add_at(sums, cells::BUYERS, market::gain(limit, price, volume));
-    cells::add_at(sums, cells::TRADED, market::wide(volume));
+    sums.buyers += market::gain(limit, price, volume);
+    sums.traded += market::wide(volume);
     cells::add_at(nets, cell, market::negative(market::wide(volume)));
     true
 }
@@ -219,8 +198,8 @@ fn count_at(
     quantity: u32,
     volume: u32,
     cell: usize,
-    nets: &mut [i64],
-    sums: &mut [i64],
+    nets: &mut [i64; 200],
+    sums: &mut Sums,
 ) -> bool
     requires { (Near limit price quantity) × (Room cell nets.old sums.old) }
     ensures { result ≡ true → CountedAt slot limit price quantity volume cell
@@ -232,80 +211,91 @@ fn count_at(
     count_bought(limit, price, quantity, volume, cell, nets, sums)
 }
 
-fn count_step(
-    day: &[u8],
-    clearing: &[u8],
-    counts: Counts,
-    row: usize,
-    heads: &[usize],
-    prices: &[i64],
-    places: &[u8],
-    nets: &mut [i64],
-    sums: &mut [i64],
-) -> bool
-    requires ready { (Ready counts day.now clearing.now full nets.old sums.old) × (row < counts.steps) }
-    requires known { Known counts clearing.now heads.now prices.now places.now }
-    ensures { result ≡ true → StepCounted counts day.now clearing.now row
-        nets.old nets.new sums.old sums.new }
-{
-    let part = parts::steps_part(day, counts);
-    let at = 2 + 12 * row;
-    let head = head_at(part, at);
-    let slot = slot_of(head);
-    if !holds(heads, slot, head) {
-        return false;
-    }
-    let limit = wire::i32_at(part, at + 4);
-    let quantity = wire::u32_at(part, at + 8);
-    if !numbers_ok(limit, quantity) {
-        return false;
-    }
-    let price = price_in(prices, slot);
-    let cell = wire::u8_at(places, slot);
-    let volume = book::volume_of(clearing, counts, row);
-    count_at(slot, limit, price, quantity, volume, cell, nets, sums)
+// ---- the steps, by the slots of their heads
+
+// 512 slots: each head that the day allows stands in one of its own, with the price and the cell of its zone and period.
+#[derive(Clone, Copy)]
+struct Slots<'a> {
+    framed: Framed<'a>,
+    heads: &'a [usize; 512],
+    prices: &'a [i64; 512],
+    places: &'a [u8; 512],
+    ghost known: { ∥ Known framed.counts framed.clearing.now heads.now prices.now places.now ∥₁ },
 }
 
-// ---- all steps
+impl<'a> Slots<'a> {
+    // Whether a row's head stands in its slot, so that it is one that the day allows.
+    fn holds(self, slot: usize, head: usize) -> bool
+        requires { slot < 512 }
+        ensures { result ≡ eqb (get_or self.entry.heads.now slot 0) head }
+    {
+        self.heads[slot] == head
+    }
 
-fn count_all(
-    day: &[u8],
-    clearing: &[u8],
-    counts: Counts,
-    heads: &[usize],
-    prices: &[i64],
-    places: &[u8],
-    nets: &mut [i64],
-    sums: &mut [i64],
-) -> bool
-    requires ready { Ready counts day.now clearing.now most nets.old sums.old }
-    requires known { Known counts clearing.now heads.now prices.now places.now }
-    ensures { result ≡ true → StepsCounted counts day.now clearing.now counts.steps
-        nets.old nets.new sums.old sums.new }
-{
-    for i in 0..counts.steps {
-        if !count_step(day, clearing, counts, i, heads, prices, places, nets, sums) {
+    fn price(self, slot: usize) -> i64
+        requires { slot < 512 }
+        ensures { result ≡ get_or self.entry.prices.now slot (pos 0) }
+    {
+        self.prices[slot]
+    }
+
+    fn place(self, slot: usize) -> usize
+        requires { slot < 512 }
+        ensures { result ≡ get_or self.entry.places.now slot 0 }
+    {
+        let places = self.places;
+        wire::u8_at(places, slot)
+    }
+
+    fn count_step(self, row: usize, nets: &mut [i64; 200], sums: &mut Sums) -> bool
+        requires { let f = self.framed in Ready f.counts f.day.now f.clearing.now full nets.old sums.old × (row < f.counts.steps) }
+        ensures { let f = self.entry.framed in result ≡ true → StepCounted f.counts f.day.now f.clearing.now row nets.old nets.new sums.old sums.new }
+    {
+        let part = self.framed.steps_part();
+        let at = 2 + 12 * row;
+        let head = head_at(part, at);
+        let slot = slot_of(head);
+        if !self.holds(slot, head) {
             return false;
         }
+        let limit = wire::i32_at(part, at + 4);
+        let quantity = wire::u32_at(part, at + 8);
+        if !numbers_ok(limit, quantity) {
+            return false;
+        }
+        let price = self.price(slot);
+        let cell = self.place(slot);
+        let volume = self.framed.volume(row);
+        count_at(slot, limit, price, quantity, volume, cell, nets, sums)
     }
-    true
+
+    fn count_all(self, nets: &mut [i64; 200], sums: &mut Sums) -> bool
+        requires { let f = self.framed in Ready f.counts f.day.now f.clearing.now most nets.old sums.old }
+        ensures { let f = self.entry.framed in result ≡ true → StepsCounted f.counts f.day.now f.clearing.now f.counts.steps nets.old nets.new sums.old sums.new }
+    {
+        for i in 0..self.framed.counts.steps {
+            if !self.count_step(i, nets, sums) {
+                return false;
+            }
+        }
+        true
+    }
 }
 
-pub fn count_steps(
-    day: &[u8],
-    clearing: &[u8],
-    counts: Counts,
-    nets: &mut [i64],
-    sums: &mut [i64],
-) -> bool
-    requires { Ready counts day.now clearing.now most nets.old sums.old }
-    ensures { result ≡ true → StepsCounted counts day.now clearing.now counts.steps
-        nets.old nets.new sums.old sums.new }
+pub fn count_steps(framed: Framed<'_>, nets: &mut [i64; 200], sums: &mut Sums) -> bool
+    requires { Ready framed.counts framed.day.now framed.clearing.now most nets.old sums.old }
+    ensures { let f = framed.entry in result ≡ true → StepsCounted f.counts f.day.now f.clearing.now f.counts.steps nets.old nets.new sums.old sums.new }
 {
     // No four bytes make this number. Where it stands, the other two tables are not read: any number may stand there.
     let mut heads = [4294967296usize; 512];
     let mut prices = [4294967296i64; 512];
     let mut places = [0u8; 512];
-    know_all(clearing, counts, &mut heads, &mut prices, &mut places);
-    count_all(day, clearing, counts, &heads, &prices, &places, nets, sums)
+    know_all(framed, &mut heads, &mut prices, &mut places);
+    let slots = Slots {
+        framed,
+        heads: &heads,
+        prices: &prices,
+        places: &places,
+    };
+    slots.count_all(nets, sums)
 }

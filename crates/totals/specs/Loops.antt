@@ -8,6 +8,14 @@ use Rattle.whole.specs.Whole.{sum}
 use Rattle.whole.proofs.Sums.{sum_next}
 use Rattle.whole.proofs.Size.{fits_i64, same}
 
+-- n calls: the one at i gives the term i of f, by what is known of the answer of each
+pub record Gives (n : ℕ) (answers : ℕ → ℤ → Type 0) (f : ℕ → ℤ) : Type 0 where
+  pub each : (i : ℕ) (r : ℤ) → i < n → answers i r → r ≡ f i
+
+-- no sum on the way to n terms of f is beyond an i64
+pub record PartsFit (n : ℕ) (f : ℕ → ℤ) : Type 0 where
+  pub size : (k : ℕ) → k ≤ n → nat_abs (sum k f) < 9223372036854775808
+
 -- at the place i of n, `all` is the sum of the terms before i
 pub record Summed (f : ℕ → ℤ) (n i : ℕ) (all : ℤ) : Type 0 where
   pub within : i ≤ n

@@ -1,70 +1,71 @@
 // The sums over the rows of two files that read without fault: the six totals, and the tables of the net positions and the flows.
 #![tactic(auto)]
 
-ghost use Rattle.std.specs.Prelude.{◌≡◌, ◌+◌, ◌*◌, ◌≤◌, ◌<◌, pos, neg_ℤ, nat_abs, ◌+ℤ◌, length, get_or};
+ghost use Rattle.std.specs.Prelude.{◌≡◌, ◌+◌, ◌*◌, ◌≤◌, ◌<◌, ℕ, ℤ, pos, neg_ℤ, nat_abs, ◌+ℤ◌, length, get_or};
 ghost use Rattle.std.specs.Int.{w64};
 ghost use Rattle.std.proofs.Common.{SFits};
 ghost use Rattle.whole.specs.Whole.{sum, above_zero};
 ghost use Rattle.cells.specs.Cells.{added, Tabled};
 ghost use Rattle.limits.specs.Limits.{most_flow, most_ratio};
 ghost use Rattle.market.specs.Market.{block_trade};
-ghost use Rattle.book.specs.Of.{OfFiles};
 ghost use Rattle.totals.specs.Sums as sums;
+ghost use Rattle.totals.specs.Loops.{Gives, PartsFit};
 ghost use Rattle.totals.specs.Gather.{signed, brings, after_steps, after_blocks, after_lines};
 
-use day::Counts;
+use book::{Book, Framed};
 use market::{Block, Line, Measure, Side, Totals, Trade};
+
+// ---- a sum
+
+// What `of` gives at each number below n, added up.
+fn sum_of<F: Fn(usize) -> i64>(n: usize, of: F) -> i64
+    requires callable { (i : ℕ) → i < n → F.pre of i }
+    requires parts_fit { (f : ℕ → ℤ) × (Gives n (F.post of) f × PartsFit n f) }
+    ensures { (f : ℕ → ℤ) → Gives n (F.post of) f → result ≡ sum n f }
+{
+    let mut all: i64 = 0;
+    for i in 0..n {
+        all = market::add(all, of(i));
+    }
+    all
+}
 
 // ---- the steps
 
-fn step_trade(day: &[u8], clearing: &[u8], counts: Counts, row: usize) -> Trade
-    requires { (OfFiles day.now clearing.now counts) × (row < counts.steps) }
-    ensures { result ≡ sums.step_trade day.now clearing.now row }
+fn step_trade(book: Book<'_>, row: usize) -> Trade
+    requires { row < book.framed.counts.steps }
+    ensures { let f = book.entry.framed in result ≡ sums.step_trade f.day.now f.clearing.now row }
 {
-    let step = book::step_of(day, counts, row);
+    let step = book.framed.step(row);
     let side = step.side;
     Trade {
         zone: step.zone,
         period: step.period,
         side,
         limit: step.limit,
-        volume: book::volume_of(clearing, counts, row),
+        volume: book.framed.volume(row),
     }
 }
 
 // What a trade counts at the price of its zone and period.
-fn priced(measure: Measure, trade: Trade, clearing: &[u8], counts: Counts) -> i64
-    requires { sums.Priceable clearing.now counts trade }
-    ensures { result ≡ sums.priced_in clearing.now counts measure trade }
+fn priced(measure: Measure, trade: Trade, framed: Framed<'_>) -> i64
+    requires { sums.Priceable framed.clearing.now framed.counts trade }
+    ensures { result ≡ sums.priced_in framed.entry.clearing.now framed.entry.counts measure trade }
 {
-    market::measured(
-        measure,
-        trade,
-        book::price_of(clearing, counts, trade.zone, trade.period),
-    )
+    market::measured(measure, trade, framed.price(trade.zone, trade.period))
 }
 
-fn one_step(measure: Measure, day: &[u8], clearing: &[u8], counts: Counts, row: usize) -> i64
-    requires { (OfFiles day.now clearing.now counts) × (row < counts.steps) }
-    ensures { result ≡ sums.one_step counts day.now clearing.now measure row }
+fn one_step(measure: Measure, book: Book<'_>, row: usize) -> i64
+    requires { row < book.framed.counts.steps }
+    ensures { let f = book.entry.framed in result ≡ sums.one_step f.counts f.day.now f.clearing.now measure row }
 {
-    priced(
-        measure,
-        step_trade(day, clearing, counts, row),
-        clearing,
-        counts,
-    )
+    priced(measure, step_trade(book, row), book.framed)
 }
 
-fn over_steps(measure: Measure, day: &[u8], clearing: &[u8], counts: Counts) -> i64
-    requires { OfFiles day.now clearing.now counts }
-    ensures { result ≡ sum counts.steps (sums.one_step counts day.now clearing.now measure) }
+fn over_steps(measure: Measure, book: Book<'_>) -> i64
+    ensures { let f = book.entry.framed in result ≡ sum f.counts.steps (sums.one_step f.counts f.day.now f.clearing.now measure) }
 {
-    let mut all: i64 = 0;
-    for i in 0..counts.steps {
-        all = market::add(all, one_step(measure, day, clearing, counts, i));
-    }
-    all
+    sum_of(book.framed.counts.steps, |row| one_step(measure, book, row))
 }
 
 // ---- the blocks
@@ -82,167 +83,123 @@ fn block_trade(block: Block, period: usize, volume: u32) -> Trade
     }
 }
 
-fn one_period(
-    measure: Measure,
-    day: &[u8],
-    clearing: &[u8],
-    counts: Counts,
-    row: usize,
-    ratio: u32,
-    period: usize,
-) -> i64
-    requires { (OfFiles day.now clearing.now counts) × ((row < counts.blocks) × ((period < counts.periods) × (ratio ≤ most_ratio))) }
-    ensures { result ≡ sums.one_period counts day.now clearing.now measure row ratio period }
+fn one_period(measure: Measure, book: Book<'_>, row: usize, ratio: u32, period: usize) -> i64
+    requires { (row < book.framed.counts.blocks) × ((period < book.framed.counts.periods) × (ratio ≤ most_ratio)) }
+    ensures { let f = book.entry.framed in result ≡ sums.one_period f.counts f.day.now f.clearing.now measure row ratio period }
 {
     priced(
         measure,
         block_trade(
-            book::block_of(day, counts, row),
+            book.framed.block(row),
             period,
-            market::block_volume(ratio, book::quantity_of(day, counts, row, period)),
+            market::block_volume(ratio, book.framed.quantity(row, period)),
         ),
-        clearing,
-        counts,
+        book.framed,
     )
 }
 
 // A block in all its periods, at a ratio.
-fn over_periods(
-    measure: Measure,
-    day: &[u8],
-    clearing: &[u8],
-    counts: Counts,
-    row: usize,
-    ratio: u32,
-) -> i64
-    requires { (OfFiles day.now clearing.now counts) × ((row < counts.blocks) × (ratio ≤ most_ratio)) }
-    ensures { result ≡ sums.over_periods counts day.now clearing.now measure row ratio }
+fn over_periods(measure: Measure, book: Book<'_>, row: usize, ratio: u32) -> i64
+    requires { (row < book.framed.counts.blocks) × (ratio ≤ most_ratio) }
+    ensures { let f = book.entry.framed in result ≡ sums.over_periods f.counts f.day.now f.clearing.now measure row ratio }
 {
-    let mut all: i64 = 0;
-    for period in 0..counts.periods {
-        all = market::add(
-            all,
-            one_period(measure, day, clearing, counts, row, ratio, period),
-        );
-    }
-    all
-}
-
-fn one_block(measure: Measure, day: &[u8], clearing: &[u8], counts: Counts, row: usize) -> i64
-    requires { (OfFiles day.now clearing.now counts) × (row < counts.blocks) }
-    ensures { result ≡ sums.one_block counts day.now clearing.now measure row }
-{
-    over_periods(
-        measure,
-        day,
-        clearing,
-        counts,
-        row,
-        book::ratio_of(clearing, counts, row),
+    sum_of(
+        book.framed.counts.periods,
+        |period| one_period(measure, book, row, ratio, period),
     )
 }
 
-fn over_blocks(measure: Measure, day: &[u8], clearing: &[u8], counts: Counts) -> i64
-    requires { OfFiles day.now clearing.now counts }
-    ensures { result ≡ sum counts.blocks (sums.one_block counts day.now clearing.now measure) }
+fn one_block(measure: Measure, book: Book<'_>, row: usize) -> i64
+    requires { row < book.framed.counts.blocks }
+    ensures { let f = book.entry.framed in result ≡ sums.one_block f.counts f.day.now f.clearing.now measure row }
 {
-    let mut all: i64 = 0;
-    for k in 0..counts.blocks {
-        all = market::add(all, one_block(measure, day, clearing, counts, k));
-    }
-    all
+    over_periods(measure, book, row, book.framed.ratio(row))
+}
+
+fn over_blocks(measure: Measure, book: Book<'_>) -> i64
+    ensures { let f = book.entry.framed in result ≡ sum f.counts.blocks (sums.one_block f.counts f.day.now f.clearing.now measure) }
+{
+    sum_of(
+        book.framed.counts.blocks,
+        |row| one_block(measure, book, row),
+    )
 }
 
 // ---- over all that is accepted
 
-fn everything(measure: Measure, day: &[u8], clearing: &[u8], counts: Counts) -> i64
-    requires { OfFiles day.now clearing.now counts }
-    ensures { result ≡ sums.everything counts day.now clearing.now measure }
+fn everything(measure: Measure, book: Book<'_>) -> i64
+    ensures { let f = book.entry.framed in result ≡ sums.everything f.counts f.day.now f.clearing.now measure }
 {
-    market::add(
-        over_steps(measure, day, clearing, counts),
-        over_blocks(measure, day, clearing, counts),
-    )
+    market::add(over_steps(measure, book), over_blocks(measure, book))
 }
 
 // ---- the shortfall
 
-pub fn whole_surplus(day: &[u8], clearing: &[u8], counts: Counts, row: usize) -> i64
-    requires { (OfFiles day.now clearing.now counts) × (row < counts.blocks) }
-    ensures { result ≡ sums.whole_surplus counts day.now clearing.now row }
+pub fn whole_surplus(book: Book<'_>, row: usize) -> i64
+    requires { row < book.framed.counts.blocks }
+    ensures { let f = book.entry.framed in result ≡ sums.whole_surplus f.counts f.day.now f.clearing.now row }
 {
-    over_periods(Measure::Surplus, day, clearing, counts, row, market::WHOLE)
+    over_periods(Measure::Surplus, book, row, market::WHOLE)
 }
 
 // What is left unaccepted of a block, in all its periods: the whole less what is accepted.
-fn left_surplus(day: &[u8], clearing: &[u8], counts: Counts, row: usize) -> i64
-    requires { (OfFiles day.now clearing.now counts) × (row < counts.blocks) }
-    ensures { result ≡ sums.left_surplus counts day.now clearing.now row }
+fn left_surplus(book: Book<'_>, row: usize) -> i64
+    requires { row < book.framed.counts.blocks }
+    ensures { let f = book.entry.framed in result ≡ sums.left_surplus f.counts f.day.now f.clearing.now row }
 {
-    let whole = whole_surplus(day, clearing, counts, row);
-    let accepted = one_block(Measure::Surplus, day, clearing, counts, row);
+    let whole = whole_surplus(book, row);
+    let accepted = one_block(Measure::Surplus, book, row);
     market::less(whole, accepted)
 }
 
 fn above_zero(surplus: i64) -> i64
     ensures { result ≡ above_zero surplus }
 {
-    if 0 < surplus { surplus } else { 0 }
+    surplus.max(0)
 }
 
-fn missed(day: &[u8], clearing: &[u8], counts: Counts, row: usize) -> i64
-    requires { (OfFiles day.now clearing.now counts) × (row < counts.blocks) }
-    ensures { result ≡ sums.missed counts day.now clearing.now row }
+fn missed(book: Book<'_>, row: usize) -> i64
+    requires { row < book.framed.counts.blocks }
+    ensures { let f = book.entry.framed in result ≡ sums.missed f.counts f.day.now f.clearing.now row }
 {
-    above_zero(left_surplus(day, clearing, counts, row))
+    above_zero(left_surplus(book, row))
 }
 
-fn shortfall(day: &[u8], clearing: &[u8], counts: Counts) -> i64
-    requires { OfFiles day.now clearing.now counts }
-    ensures { result ≡ sum counts.blocks (sums.missed counts day.now clearing.now) }
+fn shortfall(book: Book<'_>) -> i64
+    ensures { let f = book.entry.framed in result ≡ sum f.counts.blocks (sums.missed f.counts f.day.now f.clearing.now) }
 {
-    let mut all: i64 = 0;
-    for k in 0..counts.blocks {
-        all = market::add(all, missed(day, clearing, counts, k));
-    }
-    all
+    sum_of(book.framed.counts.blocks, |row| missed(book, row))
 }
 
 // ---- the lines
 
 // The flow of a line and period, times how much dearer "to" is than "from".
-fn rent_at(day: &[u8], clearing: &[u8], counts: Counts, line: usize, period: usize) -> i64
-    requires { (OfFiles day.now clearing.now counts) × ((line < counts.lines) × (period < counts.periods)) }
-    ensures { result ≡ sums.rent_at counts day.now clearing.now line period }
+fn rent_at(book: Book<'_>, line: usize, period: usize) -> i64
+    requires { (line < book.framed.counts.lines) × (period < book.framed.counts.periods) }
+    ensures { let f = book.entry.framed in result ≡ sums.rent_at f.counts f.day.now f.clearing.now line period }
 {
-    let ends = book::line_of(day, counts, line);
+    let ends = book.framed.line(line);
     market::rent(
-        book::flow_of(clearing, counts, line, period),
-        book::price_of(clearing, counts, ends.from, period),
-        book::price_of(clearing, counts, ends.to, period),
+        book.framed.flow(line, period),
+        book.framed.price(ends.from, period),
+        book.framed.price(ends.to, period),
     )
 }
 
-fn line_rent(day: &[u8], clearing: &[u8], counts: Counts, line: usize) -> i64
-    requires { (OfFiles day.now clearing.now counts) × (line < counts.lines) }
-    ensures { result ≡ sums.line_rent counts day.now clearing.now line }
+fn line_rent(book: Book<'_>, line: usize) -> i64
+    requires { line < book.framed.counts.lines }
+    ensures { let f = book.entry.framed in result ≡ sums.line_rent f.counts f.day.now f.clearing.now line }
 {
-    let mut all: i64 = 0;
-    for period in 0..counts.periods {
-        all = market::add(all, rent_at(day, clearing, counts, line, period));
-    }
-    all
+    sum_of(
+        book.framed.counts.periods,
+        |period| rent_at(book, line, period),
+    )
 }
 
-fn rent(day: &[u8], clearing: &[u8], counts: Counts) -> i64
-    requires { OfFiles day.now clearing.now counts }
-    ensures { result ≡ sum counts.lines (sums.line_rent counts day.now clearing.now) }
+fn rent(book: Book<'_>) -> i64
+    ensures { let f = book.entry.framed in result ≡ sum f.counts.lines (sums.line_rent f.counts f.day.now f.clearing.now) }
 {
-    let mut all: i64 = 0;
-    for line in 0..counts.lines {
-        all = market::add(all, line_rent(day, clearing, counts, line));
-    }
-    all
+    sum_of(book.framed.counts.lines, |line| line_rent(book, line))
 }
 
 // ---- the net positions and the flows, gathered by zone and period: each row is read once
@@ -271,49 +228,48 @@ fn add_trade(trade: Trade, periods: usize, nets: &mut [i64])
     );
 }
 
-fn gather_steps(day: &[u8], clearing: &[u8], counts: Counts, nets: &mut [i64])
-    requires of_files { OfFiles day.now clearing.now counts }
-    requires tabled { Tabled counts.zones counts.periods (λ _ _. pos 0) nets.old }
-    ensures { Tabled counts.zones counts.periods (after_steps counts day.now clearing.now counts.steps)
-        nets.new }
+fn gather_steps(book: Book<'_>, nets: &mut [i64])
+    requires { let f = book.framed in Tabled f.counts.zones f.counts.periods (λ _ _. pos 0) nets.old }
+    ensures { let f = book.entry.framed in Tabled f.counts.zones f.counts.periods (after_steps f.counts f.day.now f.clearing.now f.counts.steps) nets.new }
 {
-    for row in 0..counts.steps {
-        add_trade(step_trade(day, clearing, counts, row), counts.periods, nets);
+    for row in 0..book.framed.counts.steps {
+        add_trade(step_trade(book, row), book.framed.counts.periods, nets);
     }
 }
 
 // A block in each of its periods.
-fn gather_block(day: &[u8], clearing: &[u8], counts: Counts, row: usize, nets: &mut [i64])
-    requires of_files { (OfFiles day.now clearing.now counts) × (row < counts.blocks) }
-    requires tabled { Tabled counts.zones counts.periods (after_blocks counts day.now clearing.now row) nets.old }
-    ensures { Tabled counts.zones counts.periods (after_blocks counts day.now clearing.now (row + 1)) nets.new }
+fn gather_block(book: Book<'_>, row: usize, nets: &mut [i64])
+    requires row_in { row < book.framed.counts.blocks }
+    requires tabled { let f = book.framed in Tabled f.counts.zones f.counts.periods (after_blocks f.counts f.day.now f.clearing.now row) nets.old }
+    ensures { let f = book.entry.framed in Tabled f.counts.zones f.counts.periods (after_blocks f.counts f.day.now f.clearing.now (row + 1)) nets.new }
 {
-    let block = book::block_of(day, counts, row);
-    let ratio = book::ratio_of(clearing, counts, row);
-    for period in 0..counts.periods {
-        let volume = market::block_volume(ratio, book::quantity_of(day, counts, row, period));
-        add_trade(block_trade(block, period, volume), counts.periods, nets);
+    let block = book.framed.block(row);
+    let ratio = book.framed.ratio(row);
+    for period in 0..book.framed.counts.periods {
+        let volume = market::block_volume(ratio, book.framed.quantity(row, period));
+        add_trade(
+            block_trade(block, period, volume),
+            book.framed.counts.periods,
+            nets,
+        );
     }
 }
 
-fn gather_blocks(day: &[u8], clearing: &[u8], counts: Counts, nets: &mut [i64])
-    requires of_files { OfFiles day.now clearing.now counts }
-    requires tabled { Tabled counts.zones counts.periods (after_steps counts day.now clearing.now counts.steps) nets.old }
-    ensures { Tabled counts.zones counts.periods (after_blocks counts day.now clearing.now counts.blocks)
-        nets.new }
+fn gather_blocks(book: Book<'_>, nets: &mut [i64])
+    requires { let f = book.framed in Tabled f.counts.zones f.counts.periods (after_steps f.counts f.day.now f.clearing.now f.counts.steps) nets.old }
+    ensures { let f = book.entry.framed in Tabled f.counts.zones f.counts.periods (after_blocks f.counts f.day.now f.clearing.now f.counts.blocks) nets.new }
 {
-    for row in 0..counts.blocks {
-        gather_block(day, clearing, counts, row, nets);
+    for row in 0..book.framed.counts.blocks {
+        gather_block(book, row, nets);
     }
 }
 
-pub fn gather_nets(day: &[u8], clearing: &[u8], counts: Counts, nets: &mut [i64])
-    requires of_files { OfFiles day.now clearing.now counts }
-    requires tabled { Tabled counts.zones counts.periods (λ _ _. pos 0) nets.old }
-    ensures { Tabled counts.zones counts.periods (sums.net_position counts day.now clearing.now) nets.new }
+pub fn gather_nets(book: Book<'_>, nets: &mut [i64])
+    requires { let f = book.framed in Tabled f.counts.zones f.counts.periods (λ _ _. pos 0) nets.old }
+    ensures { let f = book.entry.framed in Tabled f.counts.zones f.counts.periods (sums.net_position f.counts f.day.now f.clearing.now) nets.new }
 {
-    gather_steps(day, clearing, counts, nets);
-    gather_blocks(day, clearing, counts, nets);
+    gather_steps(book, nets);
+    gather_blocks(book, nets);
 }
 
 // A flow leaves "from" and enters "to".
@@ -333,45 +289,43 @@ fn add_flow(line: Line, flow: i64, periods: usize, period: usize, flows: &mut [i
 }
 
 // A line in each period.
-fn gather_line(day: &[u8], clearing: &[u8], counts: Counts, line: usize, flows: &mut [i64])
-    requires of_files { (OfFiles day.now clearing.now counts) × (line < counts.lines) }
-    requires tabled { Tabled counts.zones counts.periods (after_lines counts day.now clearing.now line) flows.old }
-    ensures { Tabled counts.zones counts.periods (after_lines counts day.now clearing.now (line + 1)) flows.new }
+fn gather_line(book: Book<'_>, line: usize, flows: &mut [i64])
+    requires line_in { line < book.framed.counts.lines }
+    requires tabled { let f = book.framed in Tabled f.counts.zones f.counts.periods (after_lines f.counts f.day.now f.clearing.now line) flows.old }
+    ensures { let f = book.entry.framed in Tabled f.counts.zones f.counts.periods (after_lines f.counts f.day.now f.clearing.now (line + 1)) flows.new }
 {
-    let ends = book::line_of(day, counts, line);
-    for period in 0..counts.periods {
+    let ends = book.framed.line(line);
+    for period in 0..book.framed.counts.periods {
         add_flow(
             ends,
-            book::flow_of(clearing, counts, line, period),
-            counts.periods,
+            book.framed.flow(line, period),
+            book.framed.counts.periods,
             period,
             flows,
         );
     }
 }
 
-pub fn gather_flows(day: &[u8], clearing: &[u8], counts: Counts, flows: &mut [i64])
-    requires of_files { OfFiles day.now clearing.now counts }
-    requires tabled { Tabled counts.zones counts.periods (λ _ _. pos 0) flows.old }
-    ensures { Tabled counts.zones counts.periods (sums.net_flow counts day.now clearing.now) flows.new }
+pub fn gather_flows(book: Book<'_>, flows: &mut [i64])
+    requires { let f = book.framed in Tabled f.counts.zones f.counts.periods (λ _ _. pos 0) flows.old }
+    ensures { let f = book.entry.framed in Tabled f.counts.zones f.counts.periods (sums.net_flow f.counts f.day.now f.clearing.now) flows.new }
 {
-    for line in 0..counts.lines {
-        gather_line(day, clearing, counts, line, flows);
+    for line in 0..book.framed.counts.lines {
+        gather_line(book, line, flows);
     }
 }
 
 // ---- the totals
 
-pub fn totals_of(day: &[u8], clearing: &[u8], counts: Counts) -> Totals
-    requires { OfFiles day.now clearing.now counts }
-    ensures { result ≡ sums.totals counts day.now clearing.now }
+pub fn totals_of(book: Book<'_>) -> Totals
+    ensures { let f = book.entry.framed in result ≡ sums.totals f.counts f.day.now f.clearing.now }
 {
     Totals {
-        value: everything(Measure::Value, day, clearing, counts),
-        buyers: everything(Measure::Buyers, day, clearing, counts),
-        sellers: everything(Measure::Sellers, day, clearing, counts),
-        rent: rent(day, clearing, counts),
-        traded: everything(Measure::Traded, day, clearing, counts),
-        shortfall: shortfall(day, clearing, counts),
+        value: everything(Measure::Value, book),
+        buyers: everything(Measure::Buyers, book),
+        sellers: everything(Measure::Sellers, book),
+        rent: rent(book),
+        traded: everything(Measure::Traded, book),
+        shortfall: shortfall(book),
     }
 }

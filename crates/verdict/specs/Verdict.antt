@@ -1,6 +1,6 @@
 -- The verdict on a day file and a clearing file, what it leaves in the lent room, and what each of its cases gives. Assumes nothing.
 use Rattle.std.specs.Prelude.{ℕ, ◌≡◌, List, [], ◌∷◌, ◌++◌, leb, pos, length, drop}
-use Rattle.stages.specs.Stage.{Stage, once, place, first_fault, answer}
+use Rattle.stages.specs.Stage.{Stage, once, place, judged}
 use Rattle.stages.specs.declared.Place.{Place}
 use Rattle.market.specs.Market.{Day, Choice, Prices, totals}
 use Rattle.market.specs.Rules.{rule_stages}
@@ -10,8 +10,12 @@ use Rattle.clearing.specs.Clearing.{file_stages}
 use Rattle.book.specs.Book as book
 use Rattle.statement.specs.Statement.{statement_length}
 use Rattle.statement.specs.Of.{net_count, statement_with}
-use Rattle.verdict.specs.declared.Outcome.{Outcome}
-use Rattle.verdict.specs.declared.Outcome.TheVariants.{Accepted, Refused}
+use Rattle.std.specs.Prelude.{Result, Ok, Err}
+use Rattle.stages.specs.declared.Refusal.{Refusal}
+
+-- what is said of two files: their totals, or the number and the place of the first fault
+abbrev pub Outcome : Type 0
+Outcome = Result Totals Refusal
 
 -- ---- what two files say
 
@@ -50,12 +54,12 @@ stages day clearing room =
 
 -- the number and the place of the first fault, or the totals
 abbrev pub verdict : List ℕ → List ℕ → ℕ → Outcome
-verdict day clearing room = answer (Accepted (totals_of day clearing)) Refused (first_fault (stages day clearing room))
+verdict day clearing room = judged (totals_of day clearing) (stages day clearing room)
 
 -- what it leaves in the room: the statement and the bytes behind it as they were, or all as it was
 abbrev pub leaves : List ℕ → List ℕ → Outcome → List ℕ → List ℕ
-leaves day clearing (Accepted t) room = statement_of day clearing ++ drop (statement_length_of day) room
-leaves day clearing (Refused number place) room = room
+leaves day clearing (Ok t) room = statement_of day clearing ++ drop (statement_length_of day) room
+leaves day clearing (Err (number, place)) room = room
 
 -- a call of `check`: the two files, the room before it, its outcome, the room after it
 pub record Checked (day clearing before : List ℕ) (outcome : Outcome) (after : List ℕ) : Type 0 where
@@ -65,16 +69,16 @@ pub record Checked (day clearing before : List ℕ) (outcome : Outcome) (after :
 -- ---- what each case gives: the paper's number, its place, its totals
 
 abbrev pub number_of : Outcome → ℕ
-number_of (Accepted t) = 0
-number_of (Refused number place) = number
+number_of (Ok t) = 0
+number_of (Err (number, place)) = number
 
 abbrev pub place_of : Outcome → Place
-place_of (Accepted t) = place 0 0
-place_of (Refused number place) = place
+place_of (Ok t) = place 0 0
+place_of (Err (number, place)) = place
 
 abbrev pub zeros : Totals
 zeros = record { value = pos 0; buyers = pos 0; sellers = pos 0; rent = pos 0; traded = pos 0; shortfall = pos 0 }
 
 abbrev pub given_totals : Outcome → Totals
-given_totals (Accepted t) = t
-given_totals (Refused number place) = zeros
+given_totals (Ok t) = t
+given_totals (Err (number, place)) = zeros

@@ -2,10 +2,8 @@
 use Rattle.std.specs.Prelude.{ℕ, ◌+◌, ◌*◌, ◌/◌, ◌%◌, ◌<◌, ◌≤◌, ◌≡◌, List}
 use Rattle.std.proofs.Common.{le_antisymm, le_trans, div-lt_iff_lt-mul, mod-lt, arith, sym, ap, subst}
 use Rattle.std.proofs.Math.Nat.{mod-add-div}
-use Rattle.whole.specs.Whole.{at}
 use Rattle.whole.proofs.Size.{abs_le}
 use Rattle.limits.specs.Limits.{most_price}
-use Rattle.market.specs.Market as market
 use Rattle.market.specs.Rules.{Lawful, Balanced}
 use Rattle.market.proofs.RuleLaws.{test_is}
 use Rattle.market.specs.declared.Rule.TheVariants.{Price, Capacity, Quantity, Ratio, Whole, Step, Line, Block}

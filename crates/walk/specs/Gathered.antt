@@ -1,17 +1,18 @@
 -- What is gathered of sure rows is what they come to: the net positions, the flows, the totals. Assumes nothing.
-use Rattle.std.specs.Prelude.{ℕ, ◌+◌, ◌*◌, ◌<◌, ◌≤◌, ◌≡◌, List, ℤ, pos, nat_abs, ◌+ℤ◌, ◌-ℤ◌, length, get_or, replicate}
-use Rattle.std.proofs.Common.{le_refl, zero-add, arith, sym, ◌∙◌, SFits}
+use Rattle.std.specs.Prelude.{ℕ, ◌+◌, ◌*◌, ◌<◌, ◌≤◌, ◌≡◌, List, ℤ, pos, nat_abs, ◌+ℤ◌, ◌-ℤ◌, get_or, replicate}
+use Rattle.std.proofs.Common.{le_refl, arith, sym, ◌∙◌, SFits}
 use Rattle.std.proofs.Math.Nat.{le_trans}
 use Rattle.std.proofs.Math.Path.{refl}
 use Rattle.std.proofs.Math.IntN.{+ℤ_idl}
-use Rattle.std.proofs.lemmas.List.{length-replicate, get_or-replicate}
 use Rattle.std.specs.Int.{w64}
-use Rattle.whole.specs.Whole.{sum, at}
+use Rattle.whole.specs.Whole.{sum}
 use Rattle.whole.specs.Ring.{linear}
-use Rattle.whole.proofs.Sums.{sum_zero, sum_cong}
-use Rattle.whole.proofs.Size.{fits_i64, abs_le, abs-+, abs--, abs-*-≤, at_size, sum_within}
+use Rattle.whole.proofs.Sums.{sum_zero}
+use Rattle.whole.proofs.Size.{fits_i64, abs_le, abs-+, abs--, abs-*-≤, sum_within}
 use Rattle.limits.specs.Limits.{most_flow}
-use Rattle.cells.specs.Cells.{Tabled, Within, within_gained, buyers, sellers, rent, traded, shortfall, none_tabled, tabled_gained, same_tabled}
+use Rattle.cells.specs.Cells.{Tabled, Within, within_gained, none_tabled, tabled_gained, same_tabled}
+use Rattle.cells.specs.Gains.{nothing, SumsWithin, nothing_within, within_more, all_within, gained_then, within_gained as within_gain}
+use Rattle.cells.specs.declared.Sums.{Sums}
 use Rattle.market.specs.Market as market
 use Rattle.market.specs.Market.{Day, Choice, Prices, net_position, leaving, entering, totals, buyer_surplus, seller_surplus, traded_volume, rent_at, missed}
 use Rattle.market.specs.Rules.{Balanced}
@@ -21,7 +22,6 @@ use Rattle.market.proofs.Welfare.{adds_up}
 use Rattle.market.specs.declared.Totals.{Totals}
 use Rattle.market.specs.declared.Measure.{Measure}
 use Rattle.market.specs.declared.Measure.TheVariants.{Buyers, Sellers, Traded, Net}
-use Rattle.rows.specs.declared.Kind.TheVariants as kinds
 use Rattle.day.specs.declared.Counts.{Counts}
 use Rattle.day.specs.Good.{InLimits, prices_most}
 use Rattle.book.specs.Book.{line_of, day_of, prices_of, choice_of, flow_of}
@@ -32,19 +32,19 @@ use Rattle.frame.specs.Opened.{Opened}
 use Rattle.lines.specs.Sure.{SurePrice, SureLine, LinesCounted, line_gives}
 use Rattle.steps.specs.Sure.{SureStep, StepsCounted, counted, brings, gives}
 use Rattle.steps.specs.Count.{brings_size, gives_size}
-use Rattle.blocks.specs.Sure.{SureBlock, BlocksCounted, block_gives}
+use Rattle.blocks.specs.Sure.{SureBlock, BlocksCounted}
 use Rattle.walk.specs.Walked.{Walked}
 use Rattle.walk.specs.AllSure.{AllSure, files_are, lawful_but}
 
 -- ---- what is gathered
 
--- the sums of two files, in a row of them
-pub record SumsAre (c : Counts) (day clearing : List ℕ) (sums : List ℤ) : Type 0 where
-  pub buyers_are : get_or sums buyers (pos 0) ≡ buyer_surplus (day_of c day) (prices_of c clearing) (choice_of c clearing)
-  pub sellers_are : get_or sums sellers (pos 0) ≡ seller_surplus (day_of c day) (prices_of c clearing) (choice_of c clearing)
-  pub rent_is : get_or sums rent (pos 0) ≡ market.rent (day_of c day) (prices_of c clearing) (choice_of c clearing)
-  pub traded_are : get_or sums traded (pos 0) ≡ traded_volume (day_of c day) (choice_of c clearing)
-  pub shortfall_is : get_or sums shortfall (pos 0) ≡ market.shortfall (day_of c day) (prices_of c clearing) (choice_of c clearing)
+-- the sums of two files
+pub record SumsAre (c : Counts) (day clearing : List ℕ) (sums : Sums) : Type 0 where
+  pub buyers_are : sums.buyers ≡ buyer_surplus (day_of c day) (prices_of c clearing) (choice_of c clearing)
+  pub sellers_are : sums.sellers ≡ seller_surplus (day_of c day) (prices_of c clearing) (choice_of c clearing)
+  pub rent_is : sums.rent ≡ market.rent (day_of c day) (prices_of c clearing) (choice_of c clearing)
+  pub traded_are : sums.traded ≡ traded_volume (day_of c day) (choice_of c clearing)
+  pub shortfall_is : sums.shortfall ≡ market.shortfall (day_of c day) (prices_of c clearing) (choice_of c clearing)
 
 module _ (c : Counts) (day clearing : List ℕ) where
   abbrev d : Day
@@ -57,7 +57,7 @@ module _ (c : Counts) (day clearing : List ℕ) where
   ch = choice_of c clearing
 
   -- lines, steps and blocks, one after the other, from zeros
-  module _ {flows s0 s1 n1 s2 n2 s3 : List ℤ} {f0 n0 : List ℤ} (lines : LinesCounted c day clearing f0 flows s0 s1)
+  module _ {flows n1 n2 f0 n0 : List ℤ} {s0 s1 s2 s3 : Sums} (lines : LinesCounted c day clearing f0 flows s0 s1)
       (steps : StepsCounted c day clearing c.steps n0 n1 s1 s2) (blocks : BlocksCounted c day clearing n1 n2 s2 s3) where
     pub nets_gathered : c.zones * c.periods ≤ 200 → Tabled c.zones c.periods (λ _ _. pos 0) n0 →
         Tabled c.zones c.periods (net_position d ch) n2
@@ -69,73 +69,61 @@ module _ (c : Counts) (day clearing : List ℕ) where
         Tabled c.zones c.periods (λ z h. leaving d ch z h -ℤ entering d ch z h) flows
     flows_gathered small t = same_tabled small (tabled_gained lines.flows t) (λ z h _ _. rw (+ℤ_idl, net_flow_is d ch z h))
 
-    -- one of the sums: what lines, steps and blocks give to it
-    one_sum : s0 ≡ replicate 5 (pos 0) → (k : ℕ) → k < 5 → {x y z : ℤ} → sum c.lines (λ l. line_gives c day clearing l k) ≡ x →
-        sum c.steps (λ i. gives c day clearing i k) ≡ y → sum c.blocks (λ j. block_gives c day clearing j k) ≡ z → get_or s3 k (pos 0) ≡ x +ℤ (y +ℤ z)
-    one_sum e k l {x} {y} {z} a b g =
-        let none : get_or s0 k (pos 0) ≡ pos 0 = rw e (get_or-replicate 5 k (pos 0) (pos 0) l) in
-        let last : get_or s3 k (pos 0) ≡ get_or s2 k (pos 0) +ℤ z = rw (zero-add k, g) at (blocks.sums.each 0 k (omega arith) l) in
-        let third : get_or s2 k (pos 0) ≡ get_or s1 k (pos 0) +ℤ y = rw (zero-add k, b) at (steps.sums_gain.each 0 k (omega arith) l) in
-        let second : get_or s1 k (pos 0) ≡ get_or s0 k (pos 0) +ℤ x = rw (zero-add k, a) at (lines.sums.each 0 k (omega arith) l) in
-        rw (last, third, second, none) (simp linear (omega arith))
-
     -- one that lines give nothing to, and steps and blocks what is counted of them
-    one_measure : s0 ≡ replicate 5 (pos 0) → (m : Measure) (k : ℕ) → k < 5 → ((l : ℕ) → line_gives c day clearing l k ≡ pos 0) →
-        ((i : ℕ) → gives c day clearing i k ≡ counted c day clearing m i) →
-        ((j : ℕ) → block_gives c day clearing j k ≡ block_measured d p m j (ch.ratio j)) → get_or s3 k (pos 0) ≡ market.accepted d ch (priced m p)
-    one_measure e m k l a b g =
-        one_sum e k l (sum_zero c.lines _ (λ i _. a i)) (sum_cong c.steps _ _ (λ i _. b i)) (sum_cong c.blocks _ _ (λ i _. g i))
-        ∙ rw (+ℤ_idl, ← accepted_is d p ch m)
+    one_measure : (m : Measure) {before after : ℤ} → before ≡ pos 0 →
+        after ≡ before +ℤ (sum c.lines (λ _. pos 0) +ℤ sum c.steps (counted c day clearing m) +ℤ sum c.blocks (λ j. block_measured d p m j (ch.ratio j))) →
+        after ≡ market.accepted d ch (priced m p)
+    one_measure m zero e = e ∙ rw (zero, sum_zero c.lines (λ _. pos 0) (λ _ _. refl), +ℤ_idl, +ℤ_idl, ← accepted_is d p ch m)
 
-    pub sums_gathered : s0 ≡ replicate 5 (pos 0) → SumsAre c day clearing s3
-    unfolding at market.rent market.shortfall
-    sums_gathered e = record {
-      buyers_are = one_measure e Buyers buyers (omega arith) (λ _. refl) (λ _. simp linear (omega arith)) (λ _. simp linear (omega arith)) ∙ buyers_is d p ch;
-      sellers_are =
-          one_measure e Sellers sellers (omega arith) (λ _. refl) (λ _. simp linear (omega arith)) (λ _. simp linear (omega arith)) ∙ sellers_is d p ch;
-      rent_is = one_sum e rent (omega arith) refl (sum_zero c.steps _ (λ _ _. refl)) (sum_zero c.blocks _ (λ _ _. refl)) ∙ simp linear (omega arith);
-      traded_are = one_measure e Traded traded (omega arith) (λ _. refl) (λ _. simp linear (omega arith)) (λ _. simp linear (omega arith)) ∙ traded_is d p ch;
-      shortfall_is =
-          one_sum e shortfall (omega arith) (sum_zero c.lines _ (λ _ _. refl)) (sum_zero c.steps _ (λ _ _. refl))
-          (sum_cong c.blocks _ (missed d p ch) (λ _ _. simp linear (omega arith)))
-          ∙ simp linear (omega arith);
-    }
+    pub sums_gathered : s0 ≡ nothing → SumsAre c day clearing s3
+    unfolding market.rent market.shortfall
+    sums_gathered e =
+        let g = gained_then (gained_then lines.sums steps.sums_gain) blocks.sums in
+        let no_line : sum c.lines (λ _. pos 0) ≡ pos 0 = sum_zero c.lines (λ _. pos 0) (λ _ _. refl) in
+        let no_step : sum c.steps (λ _. pos 0) ≡ pos 0 = sum_zero c.steps (λ _. pos 0) (λ _ _. refl) in
+        let no_block : sum c.blocks (λ _. pos 0) ≡ pos 0 = sum_zero c.blocks (λ _. pos 0) (λ _ _. refl) in
+        record {
+          buyers_are = one_measure Buyers (rw e) g.buyers ∙ buyers_is d p ch;
+          sellers_are = one_measure Sellers (rw e) g.sellers ∙ sellers_is d p ch;
+          rent_is = g.rent ∙ rw (e, no_step, no_block) (simp linear (omega arith));
+          traded_are = one_measure Traded (rw e) g.traded ∙ traded_is d p ch;
+          shortfall_is = g.shortfall ∙ rw (e, no_line, no_step) (simp linear (omega arith));
+        }
 
 -- ---- how much the tables hold on the way
 
 -- from zeros
-pub zeros_long : {n : ℕ} {table : List ℤ} → table ≡ replicate n (pos 0) → length table ≡ n
-zeros_long {n} e = rw e (length-replicate n (pos 0))
-
 pub none_within : {c : Counts} → InLimits c → {table : List ℤ} → table ≡ replicate 200 (pos 0) → (bound : ℕ) → Within c.zones c.periods bound table
 none_within {c} limits e bound z h l k = rw (e, (none_tabled (prices_most limits)).each z h l k) (omega arith)
 
-pub no_sum_within : {sums : List ℤ} → sums ≡ replicate 5 (pos 0) → (bound : ℕ) → Within 1 5 bound sums
-no_sum_within {sums} e bound z k l j =
-    let none : z ≡ 0 = omega (arith, l) in
-    rw (none, zero-add k, e, get_or-replicate 5 k (pos 0) (pos 0) j) (omega arith)
+pub no_sum_within : {sums : Sums} → sums ≡ nothing → (bound : ℕ) → SumsWithin bound sums
+no_sum_within e bound = rw e (nothing_within bound)
 
 module _ {day clearing : List ℕ} {c : Counts} (limits : InLimits c) (prices : PricesSmall c clearing) where
-  line_gives_within : {l : ℕ} → SureLine c day clearing l → (k : ℕ) → nat_abs (line_gives c day clearing l k) ≤ 50000000000000
+  line_gives_within : {l : ℕ} → SureLine c day clearing l → SumsWithin 50000000000000 (line_gives c day clearing l)
   unfolding line_of
-  line_gives_within {l} s k =
+  line_gives_within {l} s =
       let ends = line_of c day l in
-      le_trans (at_size rent _ k)
-      (sum_within c.periods 25 (rent_at (day_of c day) (prices_of c clearing) (choice_of c clearing) l) 2000000000000 limits.periods_most
-      (λ h b.
-      let to = prices_of c clearing ends.to h in
-      let from = prices_of c clearing ends.from h in
-      abs-*-≤ (flow_of c clearing l h) (to -ℤ from) 1000000 2000000 ((abs_le (flow_of c clearing l h) most_flow).1 ((s.flow_is h b).low, (s.flow_is h b).high))
-      (omega (arith, abs-- to from, prices ends.to h s.row.to_is b, prices ends.from h s.row.from_is b))))
+      record {
+        buyers = omega arith;
+        sellers = omega arith;
+        rent = sum_within c.periods 25 (rent_at (day_of c day) (prices_of c clearing) (choice_of c clearing) l) 2000000000000 limits.periods_most
+            (λ h b.
+            let to = prices_of c clearing ends.to h in
+            let from = prices_of c clearing ends.from h in
+            abs-*-≤ (flow_of c clearing l h) (to -ℤ from) 1000000 2000000 ((abs_le (flow_of c clearing l h) most_flow).1 ((s.flow_is h b).low, (s.flow_is h b).high))
+            (omega (arith, abs-- to from, prices ends.to h s.row.to_is b, prices ends.from h s.row.from_is b)));
+        traded = omega arith;
+        shortfall = omega arith;
+      }
 
-  pub lines_within : {f0 f1 s0 s1 : List ℤ} → LinesCounted c day clearing f0 f1 s0 s1 → Within 1 5 0 s0 → Within 1 5 1000000000000000 s1
-  lines_within a w z k l j =
-      le_trans
-      (within_gained a.sums w (λ _ s _ _.
-      sum_within c.lines 16 (λ l. line_gives c day clearing l s) 50000000000000 limits.lines_most (λ i m. line_gives_within (a.sure i m) s)) z k l j)
+  pub lines_within : {f0 f1 : List ℤ} {s0 s1 : Sums} → LinesCounted c day clearing f0 f1 s0 s1 → SumsWithin 0 s0 → SumsWithin 1000000000000000 s1
+  lines_within a w =
+      within_more
+      (within_gain a.sums w (all_within c.lines 16 50000000000000 (line_gives c day clearing) limits.lines_most (λ i m. line_gives_within (a.sure i m))))
       (omega arith)
 
-  module _ {n0 n1 s1 s2 : List ℤ} (a : StepsCounted c day clearing c.steps n0 n1 s1 s2) where
+  module _ {n0 n1 : List ℤ} {s1 s2 : Sums} (a : StepsCounted c day clearing c.steps n0 n1 s1 s2) where
     pub nets_within : Within c.zones c.periods 0 n0 → Within c.zones c.periods 1000000000000000000 n1
     nets_within w z h l j =
         le_trans
@@ -143,11 +131,10 @@ module _ {day clearing : List ℕ} {c : Counts} (limits : InLimits c) (prices : 
         sum_within c.steps 2000 (λ i. brings c day clearing i z h) 2000000000000 limits.steps_most (λ i m. brings_size prices (a.sure i m) z h)) z h l j)
         (omega arith)
 
-    pub sums_within : Within 1 5 1000000000000000 s1 → Within 1 5 1000000000000000000 s2
-    sums_within w z k l j =
-        le_trans
-        (within_gained a.sums_gain w (λ _ s _ _.
-        sum_within c.steps 2000 (λ i. gives c day clearing i s) 6000000000000 limits.steps_most (λ i m. gives_size prices (a.sure i m) s)) z k l j)
+    pub sums_within : SumsWithin 1000000000000000 s1 → SumsWithin 1000000000000000000 s2
+    sums_within w =
+        within_more
+        (within_gain a.sums_gain w (all_within c.steps 2000 2000000000000 (gives c day clearing) limits.steps_most (λ i m. gives_size prices (a.sure i m))))
         (omega arith)
 
 -- ---- nothing is broken
@@ -160,17 +147,17 @@ pub balanced_is : (day clearing : List ℕ) (c : Counts) {nets flows : List ℤ}
 balanced_is day clearing c n f same z h l k = sym (n.each z h l k) ∙ same (z * c.periods + h) (cell_in l k) ∙ f.each z h l k
 
 -- the totals that the sums make
-abbrev pub totals_in : List ℤ → Totals
+abbrev pub totals_in : Sums → Totals
 totals_in sums = record {
-  value = get_or sums buyers (pos 0) +ℤ get_or sums sellers (pos 0) +ℤ get_or sums rent (pos 0);
-  buyers = get_or sums buyers (pos 0);
-  sellers = get_or sums sellers (pos 0);
-  rent = get_or sums rent (pos 0);
-  traded = get_or sums traded (pos 0);
-  shortfall = get_or sums shortfall (pos 0);
+  value = sums.buyers +ℤ sums.sellers +ℤ sums.rent;
+  buyers = sums.buyers;
+  sellers = sums.sellers;
+  rent = sums.rent;
+  traded = sums.traded;
+  shortfall = sums.shortfall;
 }
 
-module _ {day clearing : List ℕ} {c : Counts} (o : OfFiles day clearing c) {sums : List ℤ} (s : SumsAre c day clearing sums) where
+module _ {day clearing : List ℕ} {c : Counts} (o : OfFiles day clearing c) {sums : Sums} (s : SumsAre c day clearing sums) where
   -- they are the files' totals: in a balanced clearing the order value is what buyers, sellers and lines have
   pub totals_made : Balanced (day_of c day) (choice_of c clearing) → totals_in sums ≡ totals (day_of c day) (prices_of c clearing) (choice_of c clearing)
   unfolding totals
@@ -189,42 +176,41 @@ module _ {day clearing : List ℕ} {c : Counts} (o : OfFiles day clearing c) {su
   unfolding market.rent
   lines_size = rents_size _ _ _ (placed o) (ranged o) c.lines (le_refl c.lines)
 
-  buyers_size : nat_abs (get_or sums buyers (pos 0)) ≤ 9000000000000000
+  buyers_size : nat_abs sums.buyers ≤ 9000000000000000
   buyers_size = rw (s.buyers_are, ← buyers_is (day_of c day) (prices_of c clearing) (choice_of c clearing)) (accepted_size o Buyers)
 
-  sellers_size : nat_abs (get_or sums sellers (pos 0)) ≤ 9000000000000000
+  sellers_size : nat_abs sums.sellers ≤ 9000000000000000
   sellers_size = rw (s.sellers_are, ← sellers_is (day_of c day) (prices_of c clearing) (choice_of c clearing)) (accepted_size o Sellers)
 
-  rent_size : nat_abs (get_or sums rent (pos 0)) ≤ 800000000000000
+  rent_size : nat_abs sums.rent ≤ 800000000000000
   rent_size = rw s.rent_is lines_size
 
-  pub traders_fit : SFits w64 (get_or sums buyers (pos 0) +ℤ get_or sums sellers (pos 0))
-  traders_fit = fits_i64 _ (omega (arith, abs-+ (get_or sums buyers (pos 0)) (get_or sums sellers (pos 0)), buyers_size, sellers_size))
+  pub traders_fit : SFits w64 (sums.buyers +ℤ sums.sellers)
+  traders_fit = fits_i64 _ (omega (arith, abs-+ sums.buyers sums.sellers, buyers_size, sellers_size))
 
-  pub value_fits : SFits w64 (get_or sums buyers (pos 0) +ℤ get_or sums sellers (pos 0) +ℤ get_or sums rent (pos 0))
+  pub value_fits : SFits w64 (sums.buyers +ℤ sums.sellers +ℤ sums.rent)
   value_fits =
       fits_i64 _
       (omega (
         arith,
-        abs-+ (get_or sums buyers (pos 0) +ℤ get_or sums sellers (pos 0)) (get_or sums rent (pos 0)),
-        abs-+ (get_or sums buyers (pos 0)) (get_or sums sellers (pos 0)),
+        abs-+ (sums.buyers +ℤ sums.sellers) sums.rent,
+        abs-+ sums.buyers sums.sellers,
         buyers_size,
         sellers_size,
         rent_size,
       ))
 
 -- what is known of the rows when they are counted
-pub record RowsCounted (c : Counts) (day clearing : List ℕ) (nets sums : List ℤ) : Type 0 where
+pub record RowsCounted (c : Counts) (day clearing : List ℕ) (nets : List ℤ) (sums : Sums) : Type 0 where
   pub lines : (l : ℕ) → l < c.lines → SureLine c day clearing l
   pub steps : (i : ℕ) → i < c.steps → SureStep c day clearing i
   pub blocks : (k : ℕ) → k < c.blocks → SureBlock c day clearing k
   pub nets_are : Tabled c.zones c.periods (net_position (day_of c day) (choice_of c clearing)) nets
-  pub sums_long : length sums ≡ 5
   pub sums_are : SumsAre c day clearing sums
   pub balanced : Balanced (day_of c day) (choice_of c clearing)
 
-pub rows_counted : (c : Counts) (day clearing : List ℕ) {f0 flows s0 s1 n0 n1 s2 n2 s3 : List ℤ} → InLimits c →
-    f0 ≡ replicate 200 (pos 0) → n0 ≡ replicate 200 (pos 0) → s0 ≡ replicate 5 (pos 0) →
+pub rows_counted : (c : Counts) (day clearing : List ℕ) {f0 flows n0 n1 n2 : List ℤ} {s0 s1 s2 s3 : Sums} → InLimits c →
+    f0 ≡ replicate 200 (pos 0) → n0 ≡ replicate 200 (pos 0) → s0 ≡ nothing →
     LinesCounted c day clearing f0 flows s0 s1 → StepsCounted c day clearing c.steps n0 n1 s1 s2 → BlocksCounted c day clearing n1 n2 s2 s3 →
     ((k : ℕ) → k < c.zones * c.periods → get_or n2 k (pos 0) ≡ get_or flows k (pos 0)) → RowsCounted c day clearing n2 s3
 rows_counted c day clearing limits f n s lines steps blocks same =
@@ -235,12 +221,11 @@ rows_counted c day clearing limits f n s lines steps blocks same =
       steps = steps.sure;
       blocks = blocks.sure;
       nets_are = nets_are;
-      sums_long = blocks.sums.long ∙ steps.sums_gain.long ∙ lines.sums.long ∙ rw s (length-replicate 5 (pos 0));
       sums_are = sums_gathered c day clearing lines steps blocks s;
       balanced = balanced_is day clearing c nets_are (flows_gathered c day clearing lines steps blocks small (rw f (none_tabled small))) same;
     }
 
-pub all_walked : {c : Counts} {day clearing : List ℕ} {nets sums : List ℤ} → Opened day clearing c →
+pub all_walked : {c : Counts} {day clearing : List ℕ} {nets : List ℤ} {sums : Sums} → Opened day clearing c →
     ((z h : ℕ) → z < c.zones → h < c.periods → SurePrice c day clearing z h) → RowsCounted c day clearing nets sums →
     {t : Totals} → t ≡ totals_in sums → Walked day clearing c t nets
 all_walked {c} {day} {clearing} o p r e =

@@ -7,8 +7,7 @@ use Rattle.market.specs.declared.Totals.{Totals}
 use Rattle.day.specs.declared.Counts.{Counts}
 use Rattle.book.specs.Book.{day_of, prices_of, choice_of}
 use Rattle.book.specs.Of.{OfFiles}
-use Rattle.walk.specs.declared.Walk.{Walk}
-use Rattle.walk.specs.declared.Walk.TheVariants.{Sure, Doubt}
+use Rattle.std.specs.Prelude.{Option, Some, None}
 
 pub record Walked (day clearing : List ℕ) (c : Counts) (t : Totals) (nets : List ℤ) : Type 0 where
   pub of_files : OfFiles day clearing c
@@ -17,6 +16,6 @@ pub record Walked (day clearing : List ℕ) (c : Counts) (t : Totals) (nets : Li
   pub nets_are : Tabled c.zones c.periods (net_position (day_of c day) (choice_of c clearing)) nets
 
 -- what an answer says: a doubt says nothing
-abbrev pub Says : List ℕ → List ℕ → Walk → List ℤ → Type 0
-Says day clearing (Sure c t) nets = Walked day clearing c t nets
-Says day clearing Doubt nets = Unit
+abbrev pub Says : List ℕ → List ℕ → Option (Counts × Totals) → List ℤ → Type 0
+Says day clearing (Some (c, t)) nets = Walked day clearing c t nets
+Says day clearing None nets = Unit

@@ -1,9 +1,10 @@
 -- `blocks::accept` meets its contract: it gives to the sums the surplus of what is accepted, and what is left of it. Assumes nothing.
 use Rattle.std.proofs.Common.{◌*◌, ◌≤◌, mul-le-mul, arith, ◌≡◌, ◌∙◌, pos, nat_abs, ◌-ℤ◌, w64, to_z, of_z}
+use Rattle.std.proofs.Math.IntN.{+ℤ_idl, +ℤ_idr}
 use Rattle.std.proofs.lemmas.Int.{to_z-of_z}
 use Rattle.whole.specs.Ring.{given, linear}
 use Rattle.whole.proofs.Size.{sum_within, same}
-use Rattle.cells.specs.Cells.{Gained, gained_then, within_gained}
+use Rattle.cells.specs.Gains.{SumsGained, gained_then, within_gained, within_more}
 use Rattle.limits.specs.Limits.{most_periods, most_volume}
 use Rattle.rows.specs.Rows.{block_quantity}
 use Rattle.blocks.specs.Block.{shared, part_of}
@@ -39,7 +40,7 @@ share-requires-clause-accepted_bound c =
     (rw (accepted a) (part_small a), omega (arith, volumes_small (goal.at.share-requires-clause-accepted_bound c).After-add_volumes-volumes))
 
 -- what is shared out
-given_out : (c : After-share) → Gained 1 5 (λ _. shared c.args.side (part_of c.args.surplus c.args.ratio) (pos c.add_volumes-volumes.result)) c.args.sums.now c.share.new.sums
+given_out : (c : After-share) → SumsGained (shared c.args.side (part_of c.args.surplus c.args.ratio) (pos c.add_volumes-volumes.result)) c.args.sums.now c.share.new.sums
 given_out c = rw (← accepted (goal.at.After-share c).After-part_of-accepted) c.share.ensures
 
 -- what is left
@@ -48,19 +49,14 @@ left c =
     same c.less.result c.less.type_inv ∙ c.less.ensures
     ∙ rw (to_z-of_z w64 c.args.surplus c.ranges.surplus, accepted (goal.at.After-less c).After-part_of-accepted)
 
-pub miss-requires-clause-sums_len : goal.miss-requires-clause-sums_len
-miss-requires-clause-sums_len c =
-    let out = given_out (goal.at.miss-requires-clause-sums_len c).After-share in
-    let small = part_small (goal.at.miss-requires-clause-sums_len c).After-part_of-accepted in
-    let volumes = volumes_small (goal.at.miss-requires-clause-sums_len c).After-add_volumes-volumes in (
-      out.long ∙ c.requires.sums_len.0,
-      λ z h l k.
-          omega (
-            arith,
-            within_gained out {bound = 2000000000000000000} {more = 100000000000000} c.requires.sums_len.1
-                (λ y i _ _. shared_size c.args.side (part_of c.args.surplus c.args.ratio) (pos c.add_volumes-volumes.result) i small (omega (arith, volumes))) z h l k,
-          ),
-    )
+pub miss-requires-clause-sums_within : goal.miss-requires-clause-sums_within
+miss-requires-clause-sums_within c =
+    let p = goal.at.miss-requires-clause-sums_within c in
+    let volumes = volumes_small p.After-add_volumes-volumes in
+    within_more
+    (within_gained (given_out p.After-share) c.requires.sums_within
+    (shared_size c.args.side _ (pos c.add_volumes-volumes.result) (part_small p.After-part_of-accepted) (omega (arith, volumes))))
+    (omega arith)
 
 pub returns : goal.returns
 returns c _ = record {
@@ -68,5 +64,6 @@ returns c _ = record {
   whole = all_whole c.args.counts.periods c.args.ratio c.args.all c.add_volumes-volumes.result (block_quantity c.args.part.now c.args.at)
       c.requires.all_value.0 c.add_volumes-volumes.ensures.volumes_are c.if-volumes-all.false;
   nets = c.add_volumes-volumes.ensures.nets;
-  sums = rw (← c.add_volumes-volumes.ensures.volumes_are, ← left (goal.at.returns c).After-less) (gained_then (given_out (goal.at.returns c).After-share) c.miss.ensures);
+  sums = rw (← c.add_volumes-volumes.ensures.volumes_are, ← left (goal.at.returns c).After-less)
+      (simp (+ℤ_idr, +ℤ_idl) at (gained_then (given_out (goal.at.returns c).After-share) c.miss.ensures));
 }

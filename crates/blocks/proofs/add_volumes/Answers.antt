@@ -1,5 +1,5 @@
 -- `blocks::add_volumes` meets its contract: each period's volume goes to its cell and to the sum. Assumes nothing.
-use Rattle.std.proofs.Common.{ℕ, ◌≤◌, ◌<◌, ◌≡◌, le_trans, arith, ◌∙◌}
+use Rattle.std.proofs.Common.{ℕ, ◌≤◌, ◌<◌, ◌≡◌, le_trans, arith, ◌∙◌, length}
 use Rattle.cells.specs.Cells.{cell_below}
 use Rattle.limits.specs.Limits.{most_volume}
 use Rattle.market.specs.Market.{block_volume}
@@ -22,13 +22,14 @@ module _ (c : After-volume_of-volume) where
 
 pub add_volume-requires : goal.add_volume-requires
 add_volume-requires c =
+    let long : length c.args.nets.now ≡ 200 = omega arith in
     let v = (goal.at.add_volume-requires c).After-volume_of-volume in
     let few = le_trans c.loop-period.invariant.0 c.requires.ready.periods_most in
     record {
       volume_le_most_volume =
-          (rw (volume_is v) (small v _ c.loop-period-test.true), rw (c.cell.ensures, c.loop-period.invariant.1.nets.long, c.requires.nets_len.0) (cell_below c.requires.ready.cells c.requires.ready.zone_is c.loop-period-test.true));
+          (rw (volume_is v) (small v _ c.loop-period-test.true), rw (c.cell.ensures, c.loop-period.invariant.1.nets.long, long) (cell_below c.requires.ready.cells c.requires.ready.zone_is c.loop-period-test.true));
       pos_bound =
-          rw c.cell.ensures (held_size c.loop-period.invariant.1 few (λ h k. small v h (le_trans k c.loop-period.invariant.0)) c.requires.ready.zone_is c.loop-period-test.true c.requires.nets_len.1);
+          rw c.cell.ensures (held_size c.loop-period.invariant.1 few (λ h k. small v h (le_trans k c.loop-period.invariant.0)) c.requires.ready.zone_is c.loop-period-test.true c.requires.nets_within);
     }
 
 pub plus-volumes-requires : goal.plus-volumes-requires
@@ -38,10 +39,11 @@ plus-volumes-requires c =
 
 pub loop-period-preserved : goal.loop-period-preserved
 loop-period-preserved c =
+    let long : length c.args.nets.now ≡ 200 = omega arith in
     let v = (goal.at.loop-period-preserved c).After-volume_of-volume in
     let taken = c.loop-period-test.true in (
       omega (arith, taken),
       more_brought c.loop-period.invariant.1 (c.plus-volumes.ensures ∙ rw (volume_is v)) taken
-          (rw (c.loop-period.invariant.1.nets.long, c.requires.nets_len.0) (cell_below c.requires.ready.cells c.requires.ready.zone_is taken))
+          (rw (c.loop-period.invariant.1.nets.long, long) (cell_below c.requires.ready.cells c.requires.ready.zone_is taken))
           (c.add_volume.ensures ∙ rw (c.cell.ensures, volume_is v)),
     )

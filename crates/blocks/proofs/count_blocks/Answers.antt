@@ -1,5 +1,5 @@
 -- `blocks::count_blocks` meets its contract: it counts block by block. Assumes nothing.
-use Rattle.std.proofs.Common.{le_antisymm, le_trans, arith, ◌∙◌}
+use Rattle.std.proofs.Common.{le_antisymm, le_trans, arith}
 use Rattle.blocks.specs.Counted.{none_counted, more_counted, nets_within, sums_within}
 use Rattle.blocks.proofs.count_blocks.Goals as goal
 
@@ -8,13 +8,13 @@ loop-row-init c = (omega arith, none_counted)
 
 pub count_block-requires : goal.count_block-requires
 count_block-requires c =
-    let limits = c.requires.framed.0.of_clearing.limits in
+    let limits = c.args.framed.framed.of_clearing.limits in
     let many = le_trans c.loop-row.invariant.0 limits.blocks_most in
     let t = c.loop-row.invariant.1 in
     record {
-      framed = (c.requires.framed.0, (c.requires.framed.1, c.loop-row-test.true));
-      nets_len = (t.nets.long ∙ c.requires.nets_len.0, nets_within t many c.requires.framed.1 limits.periods_most c.requires.within.0);
-      sums_len = (t.sums.long ∙ c.requires.nets_len.1, sums_within t many c.requires.framed.1 limits.periods_most c.requires.within.1);
+      prices = (c.requires.prices, c.loop-row-test.true);
+      nets_within = nets_within t many c.requires.prices limits.periods_most c.requires.within.0;
+      sums_within = sums_within t many c.requires.prices limits.periods_most c.requires.within.1;
     }
 
 pub loop-row-preserved : goal.loop-row-preserved

@@ -4,7 +4,7 @@ use Rattle.blocks.specs.Sure.{CountedTo}
 use Rattle.blocks.proofs.count_blocks.Given as goal
 
 abbrev pub invariant-loop-row : goal.invariant-loop-row
-invariant-loop-row l = (l.row ≤ l.counts.blocks) × CountedTo l.counts l.day l.clearing l.row l.initial.nets l.nets l.initial.sums l.sums
+invariant-loop-row l = (l.row ≤ l.framed.counts.blocks) × CountedTo l.framed.counts l.framed.day.now l.framed.clearing.now l.row l.initial.nets l.nets l.initial.sums l.sums
 
 abbrev pub decreases-loop-row : goal.decreases-loop-row
-decreases-loop-row l = l.counts.blocks - l.row
+decreases-loop-row l = l.framed.counts.blocks - l.row

@@ -10,7 +10,7 @@ loop-period-init c = (omega arith, none_walked)
 pub loop-period-preserved : goal.loop-period-preserved
 loop-period-preserved c =
     let quantity = c.u32_at-quantity in
-    let price = same c.price_of.result c.price_of.type_inv ∙ c.price_of.ensures in (
+    let price = same c.price.result c.price.type_inv ∙ c.price.ensures in (
       omega (arith, c.loop-period-test.true),
       more_walked {raised = c.raised-price.result} c.loop-period.invariant.1
           (rw (← quantity.ensures) (omega arith))

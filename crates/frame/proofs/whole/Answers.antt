@@ -5,5 +5,4 @@ use Rattle.frame.proofs.whole.Goals as goal
 pub returns : goal.returns
 returns c =
     let a = c.args in
-    let r = c.read_rows in
-    rows_counted a.kind a.least a.most a.periods 0 a.part.now r.result c.count_of.ensures r.ensures
+    rows_counted a.form.kind a.least a.most a.form.periods 0 a.part.now c.read_rows.result c.ok.ensures.value c.read_rows.ensures

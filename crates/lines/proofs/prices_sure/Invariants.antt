@@ -4,5 +4,5 @@ use Rattle.lines.specs.Counted.{Below, Between}
 use Rattle.lines.proofs.prices_sure.Given as goal
 
 abbrev pub invariant-loop-period : goal.invariant-loop-period
-invariant-loop-period l = (l.period ≤ l.counts.periods)
-    × Below l.period (λ h. Below l.counts.zones (λ z. Between (floor_of l.day h) (ceiling_of l.day h) (prices_of l.counts l.clearing z h)))
+invariant-loop-period l = (l.period ≤ l.framed.counts.periods)
+    × Below l.period (λ h. Below l.framed.counts.zones (λ z. Between (floor_of l.framed.day.now h) (ceiling_of l.framed.day.now h) (prices_of l.framed.counts l.framed.clearing.now z h)))

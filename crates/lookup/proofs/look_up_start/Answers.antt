@@ -6,4 +6,4 @@ use Rattle.lookup.proofs.look_up_start.Goals as goal
 pub rows_start-requires : goal.rows_start-requires
 rows_start-requires c =
     let a = c.args in
-    of_day a.section a.day.now (sym c.read_for.ensures ∙ c.in-Good.is)
+    of_day a.section a.day.now (sym c.read_for.ensures ∙ c.in-Ok.is)

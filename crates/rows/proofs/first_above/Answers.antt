@@ -1,7 +1,6 @@
 -- `rows::first_above` meets its contract: the volumes before k are not above. Assumes nothing.
 use Rattle.std.proofs.lemmas.Bool.{lt-leb}
-use Rattle.std.proofs.Common.{sym, ap, ◌∙◌, ℕ, ◌-◌, leb}
-use Rattle.wire.specs.Bytes.{u32_at}
+use Rattle.std.proofs.Common.{sym, ap, ◌∙◌, ℕ, leb}
 use Rattle.stages.proofs.FirstLaws.{stop, done}
 use Rattle.limits.specs.Fields.{counted_on, counted, counted_none}
 use Rattle.rows.proofs.first_above.Goals as goal

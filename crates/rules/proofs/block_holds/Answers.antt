@@ -10,5 +10,5 @@ returns c =
       c.block_ok.ensures,
       same c.whole_surplus.result c.whole_surplus.type_inv,
       c.whole_surplus.ensures,
-      c.ratio_of.ensures,
+      c.ratio.ensures,
     )

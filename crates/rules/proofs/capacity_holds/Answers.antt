@@ -8,10 +8,10 @@ unfolding test
 returns c =
     rw (
       c.between.ensures,
-      same c.forward_of.result c.forward_of.type_inv,
-      c.forward_of.ensures,
-      same c.least_flow_of.result c.least_flow_of.type_inv,
-      c.least_flow_of.ensures,
-      same c.flow_of.result c.flow_of.type_inv,
-      c.flow_of.ensures,
+      same c.forward.result c.forward.type_inv,
+      c.forward.ensures,
+      same c.least_flow.result c.least_flow.type_inv,
+      c.least_flow.ensures,
+      same c.flow.result c.flow.type_inv,
+      c.flow.ensures,
     )

@@ -4,29 +4,29 @@ use Rattle.whole.proofs.Size.{same}
 use Rattle.market.specs.Rules.{test}
 use Rattle.rules.proofs.line_holds.Goals as goal
 
-pub price_of-requires : goal.price_of-requires
-price_of-requires c =
-    rw c.line_of-ends.ensures (c.requires.0.of_clearing, ((placed c.requires.0).line_from _ c.requires.1.0, c.requires.1.1))
+pub price-requires : goal.price-requires
+price-requires c =
+    rw c.line-ends.ensures (((placed c.args.book.reads).line_from _ c.requires.0, c.requires.1))
 
-pub price_of-requires-2 : goal.price_of-requires-2
-price_of-requires-2 c =
-    rw c.line_of-ends.ensures
-    (c.requires.0.of_clearing, ((placed c.requires.0).line_to _ c.requires.1.0, c.requires.1.1))
+pub price-requires-2 : goal.price-requires-2
+price-requires-2 c =
+    rw c.line-ends.ensures
+    (((placed c.args.book.reads).line_to _ c.requires.0, c.requires.1))
 
 pub returns : goal.returns
 unfolding test
 returns c =
     rw (
       c.line_ok.ensures,
-      same c.flow_of.result c.flow_of.type_inv,
-      same c.price_of-2.result c.price_of-2.type_inv,
-      same c.price_of.result c.price_of.type_inv,
-      same c.least_flow_of.result c.least_flow_of.type_inv,
-      same c.forward_of.result c.forward_of.type_inv,
-      c.flow_of.ensures,
-      c.price_of-2.ensures,
-      c.price_of.ensures,
-      c.least_flow_of.ensures,
-      c.forward_of.ensures,
-      c.line_of-ends.ensures,
+      same c.flow.result c.flow.type_inv,
+      same c.price-2.result c.price-2.type_inv,
+      same c.price.result c.price.type_inv,
+      same c.least_flow.result c.least_flow.type_inv,
+      same c.forward.result c.forward.type_inv,
+      c.flow.ensures,
+      c.price-2.ensures,
+      c.price.ensures,
+      c.least_flow.ensures,
+      c.forward.ensures,
+      c.line-ends.ensures,
     )

@@ -8,10 +8,10 @@ unfolding test
 returns c =
     rw (
       c.between.ensures,
-      same c.ceiling_of.result c.ceiling_of.type_inv,
-      c.ceiling_of.ensures,
-      same c.floor_of.result c.floor_of.type_inv,
-      c.floor_of.ensures,
-      same c.price_of.result c.price_of.type_inv,
-      c.price_of.ensures,
+      same c.ceiling.result c.ceiling.type_inv,
+      c.ceiling.ensures,
+      same c.floor.result c.floor.type_inv,
+      c.floor.ensures,
+      same c.price.result c.price.type_inv,
+      c.price.ensures,
     )

@@ -4,4 +4,4 @@ use Rattle.rules.proofs.quantity_holds.Goals as goal
 
 pub returns : goal.returns
 unfolding test
-returns c = rw (c.volume_of.ensures, c.step_of-step.ensures)
+returns c = rw (c.volume.ensures, c.step-step.ensures)

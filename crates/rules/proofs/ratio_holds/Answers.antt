@@ -4,4 +4,4 @@ use Rattle.rules.proofs.ratio_holds.Goals as goal
 
 pub returns : goal.returns
 unfolding test
-returns c = rw (c.ratio_ok.ensures, c.ratio_of.ensures, c.block_of-block.ensures)
+returns c = rw (c.ratio_ok.ensures, c.ratio.ensures, c.block-block.ensures)

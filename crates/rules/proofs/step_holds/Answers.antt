@@ -6,19 +6,19 @@ use Rattle.whole.proofs.Size.{same}
 use Rattle.market.specs.Rules.{test}
 use Rattle.rules.proofs.step_holds.Goals as goal
 
-pub price_of-requires : goal.price_of-requires
-price_of-requires c =
-    let day = placed c.requires.0 in
-    rw c.step_of-step.ensures (c.requires.0.of_clearing, (day.step_zone _ c.requires.1, day.step_period _ c.requires.1))
+pub price-requires : goal.price-requires
+price-requires c =
+    let day = placed c.args.book.reads in
+    rw c.step-step.ensures ((day.step_zone _ c.requires, day.step_period _ c.requires))
 
 pub returns : goal.returns
 unfolding test
 returns c =
     rw (
       c.step_ok.ensures,
-      c.volume_of.ensures,
-      same c.price_of.result c.price_of.type_inv,
-      c.price_of.ensures,
-      to_z-of_z w64 c.step_of-step.result.limit (search rules),
-      c.step_of-step.ensures,
+      c.volume.ensures,
+      same c.price.result c.price.type_inv,
+      c.price.ensures,
+      to_z-of_z w64 c.step-step.result.limit (search rules),
+      c.step-step.ensures,
     )

@@ -1,14 +1,14 @@
 -- `steps::count_bought` meets its contract. Assumes nothing.
-use Rattle.std.proofs.Common.{arith, ◌≡◌, sym, ◌∙◌, true, ◌&&◌, ◌≤◌, leb, w64, to_z, of_z, pos, neg_ℤ, get_or}
+use Rattle.std.proofs.Common.{arith, ◌≡◌, sym, ◌∙◌, true, ◌&&◌, ◌≤◌, leb, w64, to_z, of_z, pos, neg_ℤ, nat_abs}
 use Rattle.std.proofs.lemmas.Int.{to_z-of_z}
 use Rattle.whole.proofs.Size.{same}
 use Rattle.whole.specs.Ring.{given, linear}
 use Rattle.stages.specs.First.{both, leb_is}
 use Rattle.limits.specs.Limits.{most_volume}
-use Rattle.cells.specs.Cells.{buyers}
+use Rattle.cells.specs.Gains.{more_fits, more_is}
 use Rattle.market.specs.Rules.{full_or_none}
 use Rattle.market.specs.Measures.{gain}
-use Rattle.steps.specs.Count.{none_bought, more_fits, gain_size, held, beside_fits}
+use Rattle.steps.specs.Count.{none_bought, gain_size}
 use Rattle.steps.proofs.count_bought.Goals as goal
 use Rattle.steps.proofs.count_bought.Goals.{Else-not-taken_ok, After-gain, After-negative}
 
@@ -40,22 +40,22 @@ gain_is c =
     let a = c.args in
     same c.gain.result c.gain.type_inv ∙ c.gain.ensures ∙ rw (to_z-of_z w64 a.limit c.ranges.limit, to_z-of_z w64 a.price c.ranges.price)
 
-pub add_at-requires-clause-sfits : goal.add_at-requires-clause-sfits
-add_at-requires-clause-sfits c =
-    let p = goal.at.add_at-requires-clause-sfits c in
+gain_near : (c : After-gain) → nat_abs (gain c.args.limit c.args.price c.args.volume) ≤ 2000000000000
+gain_near c =
     let a = c.args in
     let near = c.requires.0 in
-    rw (gain_is p.After-gain)
-    (more_fits (get_or a.sums.now buyers (pos 0)) (gain a.limit a.price a.volume) (held a.sums.now c.requires.1.sums_within buyers (omega arith))
-    (gain_size a.limit a.price a.volume near.limit_small near.price_small (volume_small p.Else-not-taken_ok)))
+    gain_size a.limit a.price a.volume near.limit_small near.price_small (volume_small (goal.at.After-gain c).Else-not-taken_ok)
 
-pub add_at-requires-2-clause-sfits : goal.add_at-requires-2-clause-sfits
-add_at-requires-2-clause-sfits c =
-    let a = c.args in
-    let room = c.requires.1 in
+pub overflow_add-sums : goal.overflow_add-sums
+overflow_add-sums c =
+    let p = (goal.at.overflow_add-sums c).After-gain in
+    rw (gain_is p) (more_fits c.args.sums.now.buyers _ c.requires.1.sums_within.buyers (gain_near p) (omega arith))
+
+pub overflow_add-sums-2 : goal.overflow_add-sums-2
+overflow_add-sums-2 c =
+    let p = goal.at.overflow_add-sums-2 c in
     rw (same c.wide.result c.wide.type_inv, c.wide.ensures)
-    (beside_fits a.sums.now c.add_at.new.table _ (pos a.volume) room.sums_long room.sums_within c.add_at.ensures
-    (omega (arith, volume_small (goal.at.add_at-requires-2-clause-sfits c).Else-not-taken_ok))).1
+    (more_fits c.args.sums.now.traded _ c.requires.1.sums_within.traded (volume_small p.Else-not-taken_ok) (omega arith))
 
 taken_away : (c : After-negative) → to_z w64 (of_z w64 c.negative.result) ≡ neg_ℤ (pos c.args.volume)
 taken_away c =
@@ -65,8 +65,15 @@ taken_away c =
 pub returns : goal.returns
 returns c _ =
     let p = goal.at.returns c in
+    let held = c.requires.1.sums_within in
     record {
       kept = kept p.Else-not-taken_ok;
-      nets_is = c.add_at-3.ensures ∙ rw (taken_away p.After-negative);
-      sums_is = c.add_at-2.ensures ∙ rw (same c.wide.result c.wide.type_inv, c.wide.ensures, c.add_at.ensures, gain_is p.After-gain);
+      nets_is = c.add_at.ensures ∙ rw (taken_away p.After-negative);
+      sums_is = rw (
+        gain_is p.After-gain,
+        more_is c.args.sums.now.buyers _ held.buyers (gain_near p.After-gain) (omega arith),
+        same c.wide.result c.wide.type_inv,
+        c.wide.ensures,
+        more_is c.args.sums.now.traded (pos c.args.volume) held.traded (volume_small p.Else-not-taken_ok) (omega arith),
+      );
     }

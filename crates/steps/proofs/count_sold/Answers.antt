@@ -1,14 +1,14 @@
 -- `steps::count_sold` meets its contract. Assumes nothing.
-use Rattle.std.proofs.Common.{arith, ◌≡◌, sym, ◌∙◌, true, ◌&&◌, ◌≤◌, leb, w64, to_z, of_z, pos, get_or}
+use Rattle.std.proofs.Common.{arith, ◌≡◌, sym, ◌∙◌, true, ◌&&◌, ◌≤◌, leb, w64, to_z, of_z, nat_abs}
 use Rattle.std.proofs.lemmas.Int.{to_z-of_z}
 use Rattle.whole.proofs.Size.{same}
 use Rattle.whole.specs.Ring.{given, linear}
 use Rattle.stages.specs.First.{both, leb_is}
 use Rattle.limits.specs.Limits.{most_volume}
-use Rattle.cells.specs.Cells.{sellers}
+use Rattle.cells.specs.Gains.{more_fits, more_is}
 use Rattle.market.specs.Rules.{full_or_none}
 use Rattle.market.specs.Measures.{gain}
-use Rattle.steps.specs.Count.{none_sold, more_fits, gain_size, held}
+use Rattle.steps.specs.Count.{none_sold, gain_size}
 use Rattle.steps.proofs.count_sold.Goals as goal
 use Rattle.steps.proofs.count_sold.Goals.{Else-not-taken_ok, After-gain}
 
@@ -40,11 +40,23 @@ gain_is c =
     let a = c.args in
     same c.gain.result c.gain.type_inv ∙ c.gain.ensures ∙ rw (to_z-of_z w64 a.limit c.ranges.limit, to_z-of_z w64 a.price c.ranges.price)
 
-pub add_at-requires-clause-sfits : goal.add_at-requires-clause-sfits
-add_at-requires-clause-sfits c =
-    let p = goal.at.add_at-requires-clause-sfits c in
+gain_near : (c : After-gain) → nat_abs (gain c.args.price c.args.limit c.args.volume) ≤ 2000000000000
+gain_near c =
     let a = c.args in
     let near = c.requires.0 in
-    rw (gain_is p.After-gain)
-    (more_fits (get_or a.sums.now sellers (pos 0)) (gain a.price a.limit a.volume) (held a.sums.now c.requires.1.sums_within sellers (omega arith))
-    (gain_size a.price a.limit a.volume near.price_small near.limit_small (volume_small p.Else-not-taken_ok)))
+    gain_size a.price a.limit a.volume near.price_small near.limit_small (volume_small (goal.at.After-gain c).Else-not-taken_ok)
+
+pub overflow_add-sums : goal.overflow_add-sums
+overflow_add-sums c =
+    let p = (goal.at.overflow_add-sums c).After-gain in
+    rw (gain_is p) (more_fits c.args.sums.now.sellers _ c.requires.1.sums_within.sellers (gain_near p) (omega arith))
+
+pub returns : goal.returns
+returns c _ =
+    let p = goal.at.returns c in
+    let held = c.requires.1.sums_within in
+    record {
+      kept = kept p.Else-not-taken_ok;
+      nets_is = c.add_at.ensures ∙ rw (same c.wide.result c.wide.type_inv, c.wide.ensures);
+      sums_is = rw (gain_is p.After-gain, more_is c.args.sums.now.sellers _ held.sellers (gain_near p.After-gain) (omega arith));
+    }

@@ -3,5 +3,5 @@ use Rattle.std.proofs.Common.{refl}
 use Rattle.steps.specs.Known.{nothing_known}
 use Rattle.steps.proofs.count_steps.Goals as goal
 
-pub know_all-requires-clause-known : goal.know_all-requires-clause-known
-know_all-requires-clause-known c = nothing_known refl refl
+pub know_all-requires : goal.know_all-requires
+know_all-requires c = nothing_known refl refl

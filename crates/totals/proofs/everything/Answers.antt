@@ -27,7 +27,7 @@ everything_fits {day} {clearing} {c} o m =
 
 both : (c : After-over_blocks) → let a = c.args in
     to_z w64 (of_z w64 c.over_steps.result) +ℤ to_z w64 (of_z w64 c.over_blocks.result)
-    ≡ everything a.counts a.day.now a.clearing.now a.measure
+    ≡ everything a.book.framed.counts a.book.framed.day.now a.book.framed.clearing.now a.measure
 both c =
     let steps = c.over_steps in
     let blocks = c.over_blocks in
@@ -35,7 +35,7 @@ both c =
     (sym (accepted_is _ _ _ c.args.measure))
 
 pub add-requires : goal.add-requires
-add-requires c = rw (both (goal.at.add-requires c).After-over_blocks) (everything_fits c.requires c.args.measure)
+add-requires c = rw (both (goal.at.add-requires c).After-over_blocks) (everything_fits c.args.book.reads c.args.measure)
 
 pub returns : goal.returns
 returns c = same c.add.result c.add.type_inv ∙ c.add.ensures ∙ both (goal.at.returns c).After-over_blocks

@@ -4,4 +4,4 @@ use Rattle.totals.specs.Gather.{after_blocks}
 use Rattle.totals.proofs.gather_blocks.Given as goal
 
 abbrev pub invariant-loop-row : goal.invariant-loop-row
-invariant-loop-row l = (l.row ≤ l.counts.blocks) × Tabled l.counts.zones l.counts.periods (after_blocks l.counts l.day l.clearing l.row) l.nets
+invariant-loop-row l = (l.row ≤ l.book.framed.counts.blocks) × Tabled l.book.framed.counts.zones l.book.framed.counts.periods (after_blocks l.book.framed.counts l.book.framed.day.now l.book.framed.clearing.now l.row) l.nets

@@ -4,4 +4,4 @@ use Rattle.totals.proofs.gather_nets.Goals as goal
 
 pub returns : goal.returns
 returns c =
-    nets_gathered c.requires.of_files c.gather_blocks.ensures
+    nets_gathered c.args.book.reads c.gather_blocks.ensures

@@ -10,17 +10,17 @@ use Rattle.totals.proofs.left_surplus.Goals.{After-one_block-accepted}
 
 left : (c : After-one_block-accepted) → let a = c.args in
     to_z w64 (of_z w64 c.whole_surplus-whole.result) -ℤ to_z w64 (of_z w64 c.one_block-accepted.result)
-    ≡ left_surplus a.counts a.day.now a.clearing.now a.row
+    ≡ left_surplus a.book.framed.counts a.book.framed.day.now a.book.framed.clearing.now a.row
 left c =
     let whole = c.whole_surplus-whole in
     let accepted = c.one_block-accepted in
     let a = c.args in
     rw (same whole.result whole.type_inv, whole.ensures, same accepted.result accepted.type_inv, accepted.ensures)
-    (sym (left_is (day_of a.counts a.day.now) (prices_of a.counts a.clearing.now) (choice_of a.counts a.clearing.now) a.row))
+    (sym (left_is (day_of a.book.framed.counts a.book.framed.day.now) (prices_of a.book.framed.counts a.book.framed.clearing.now) (choice_of a.book.framed.counts a.book.framed.clearing.now) a.row))
 
 pub less-requires : goal.less-requires
 less-requires c =
-    let size = left_size _ _ _ (placed c.requires.0) (ranged c.requires.0) c.args.row c.requires.1 in
+    let size = left_size _ _ _ (placed c.args.book.reads) (ranged c.args.book.reads) c.args.row c.requires in
     subst (SFits w64) (sym (left (goal.at.less-requires c).After-one_block-accepted)) (fits_i64 _ (omega (arith, size)))
 
 pub returns : goal.returns

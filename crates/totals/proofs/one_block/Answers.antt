@@ -4,4 +4,4 @@ use Rattle.totals.proofs.one_block.Goals as goal
 
 pub over_periods-requires : goal.over_periods-requires
 over_periods-requires c =
-    (c.requires.0, (c.requires.1, rw c.ratio_of.ensures ((ranged c.requires.0).ratio _ c.requires.1)))
+    (c.requires, rw c.ratio.ensures ((ranged c.args.book.reads).ratio _ c.requires))

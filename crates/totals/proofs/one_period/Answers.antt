@@ -20,14 +20,14 @@ block_priceable o {k} {period} l h {ratio} r = record {
 
 pub block_volume-requires : goal.block_volume-requires
 block_volume-requires c =
-    (c.requires.1.1.1, rw c.quantity_of.ensures ((placed c.requires.0).block_quantity _ _ c.requires.1.0 c.requires.1.1.0))
+    (c.requires.1.1, rw c.quantity.ensures ((placed c.args.book.reads).block_quantity _ _ c.requires.0 c.requires.1.0))
 
 trade : (c : After-block_trade) → let a = c.args in
-    c.block_trade.result ≡ block_trade a.counts a.day.now a.clearing.now a.row a.period a.ratio
+    c.block_trade.result ≡ block_trade a.book.framed.counts a.book.framed.day.now a.book.framed.clearing.now a.row a.period a.ratio
 trade c =
     c.block_trade.ensures
-    ∙ rw (c.block_volume.ensures, c.quantity_of.ensures, c.block_of.ensures)
+    ∙ rw (c.block_volume.ensures, c.quantity.ensures, c.block.ensures)
 
 pub priced-requires : goal.priced-requires
 priced-requires c =
-    rw (trade (goal.at.priced-requires c).After-block_trade) (block_priceable c.requires.0 c.requires.1.0 c.requires.1.1.0 c.requires.1.1.1)
+    rw (trade (goal.at.priced-requires c).After-block_trade) (block_priceable c.args.book.reads c.requires.0 c.requires.1.0 c.requires.1.1)

@@ -19,7 +19,7 @@ step_priceable o {i} l = record {
 }
 
 pub priced-requires : goal.priced-requires
-priced-requires c = rw c.step_trade.ensures (step_priceable c.requires.0 c.requires.1)
+priced-requires c = rw c.step_trade.ensures (step_priceable c.args.book.reads c.requires)
 
 pub returns : goal.returns
 unfolding step_measured

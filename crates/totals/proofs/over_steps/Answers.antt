@@ -1,20 +1,23 @@
 -- `totals::over_steps` meets its contract. Assumes nothing.
-use Rattle.std.proofs.Common.{◌-◌, arith}
+use Rattle.std.proofs.Common.{rules, arith, ◌∙◌}
+use Rattle.whole.proofs.Size.{same}
 use Rattle.market.proofs.MeasureLaws.{steps_size}
 use Rattle.book.specs.Ranges.{placed, ranged}
 use Rattle.totals.specs.Sums.{one_step}
-use Rattle.totals.specs.Loops.{none_summed, more_fits, more_summed}
 use Rattle.totals.proofs.over_steps.Goals as goal
 
-pub loop-i-init : goal.loop-i-init
-loop-i-init c = none_summed
+pub sum_of-requires-clause-parts_fit : goal.sum_of-requires-clause-parts_fit
+sum_of-requires-clause-parts_fit c =
+    let o = c.args.book.reads in
+    let f = c.args.book.framed in (
+      one_step f.counts f.day.now f.clearing.now c.args.measure,
+      (
+        record { each = λ i r l e. search rules },
+        record { size = λ k l. let h = steps_size _ _ _ (placed o) (ranged o) c.args.measure k l in omega arith },
+      ),
+    )
 
-pub add-all-requires : goal.add-all-requires
-add-all-requires c =
-    more_fits c.loop-i.invariant c.loop-i-test.true c.one_step.type_inv c.one_step.ensures
-    (steps_size _ _ _ (placed c.requires) (ranged c.requires) c.args.measure) (omega arith)
-
-pub loop-i-preserved : goal.loop-i-preserved
-loop-i-preserved c =
-    more_summed c.loop-i.invariant c.loop-i-test.true c.one_step.type_inv c.one_step.ensures
-    c.add-all.type_inv c.add-all.ensures
+pub returns : goal.returns
+returns c =
+    same c.sum_of.result c.sum_of.type_inv
+    ∙ c.sum_of.ensures _ (record { each = λ i r l e. search rules })

@@ -16,9 +16,9 @@ pub returns : goal.returns
 unfolding rent shortfall
 returns c =
     let a = c.args in
-    let d = day_of a.counts a.day.now in
-    let p = prices_of a.counts a.clearing.now in
-    let k = choice_of a.counts a.clearing.now in
+    let d = day_of a.book.framed.counts a.book.framed.day.now in
+    let p = prices_of a.book.framed.counts a.book.framed.clearing.now in
+    let k = choice_of a.book.framed.counts a.book.framed.clearing.now in
     made
     d
     p

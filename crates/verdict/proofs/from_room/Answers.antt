@@ -7,11 +7,11 @@ use Rattle.verdict.proofs.from_room.Goals as goal
 pub put_statement-requires-clause-nets_len : goal.put_statement-requires-clause-nets_len
 put_statement-requires-clause-nets_len c =
     let nets = c.requires.tabled in
-    (nets.long, table_fits c.requires.released.of_files nets c.requires.released.lawful.balance_rule)
+    (nets.long, table_fits c.args.book.reads nets c.requires.lawful.balance_rule)
 
 pub returns-clause-left : goal.returns-clause-left
 returns-clause-left c =
-    let o = c.requires.released.of_files in
+    let o = c.args.book.reads in
     let n = c.statement_length-n in
     left_in o c.args.room.now _ (n.result - 0) (omega (arith, n.ensures)) (omega (arith, c.if-room-n.false)) c.requires.totals_value
     (c.put_statement.ensures ∙ rw (table_statement o c.requires.tabled c.args.totals))

@@ -5,11 +5,11 @@ use Rattle.totals.specs.Gather.{cells_most}
 use Rattle.verdict.specs.Steps.{released}
 use Rattle.verdict.proofs.from_rules.Goals as goal
 
-pub gather_nets-requires-clause-tabled : goal.gather_nets-requires-clause-tabled
-gather_nets-requires-clause-tabled c = none_tabled (cells_most c.requires)
+pub gather_nets-requires : goal.gather_nets-requires
+gather_nets-requires c = none_tabled (cells_most c.args.book.reads)
 
-pub gather_flows-requires-clause-tabled : goal.gather_flows-requires-clause-tabled
-gather_flows-requires-clause-tabled c = none_tabled (cells_most c.requires)
+pub gather_flows-requires : goal.gather_flows-requires
+gather_flows-requires c = none_tabled (cells_most c.args.book.reads)
 
-pub from_room-requires-clause-released : goal.from_room-requires-clause-released
-from_room-requires-clause-released c = released c.requires (sym c.in-Clean.is ∙ c.first_fault.ensures)
+pub from_room-requires-clause-lawful : goal.from_room-requires-clause-lawful
+from_room-requires-clause-lawful c = (released c.args.book.reads (sym c.in_ok-first_fault.was ∙ c.first_fault.ensures)).lawful

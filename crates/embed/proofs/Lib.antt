@@ -1,2 +1,0 @@
--- A buffer that is written in full.
-pub mod Written
