@@ -68,6 +68,7 @@ fn judge_next<R: Read, W: Write>(out: &mut W, file: &mut R) -> io::Result<bool> 
     let mut head = [0u8; 8];
     let whole = match input::read(file, &mut head) {
         Ok(0) => return Ok(false),
+        // By `as`, which is proved to fit: there is no `From<u32>` for `usize`.
         Ok(8) => judge_pair(
             out,
             file,

@@ -61,7 +61,7 @@ fn plus(all: u64, n: u32) -> u64
     all + u64::from(n)
 }
 
-// A price raised by the highest, so that none is below 0.
+// A price raised by the highest, so that none is below 0. By `as`, which is proved to fit: `TryFrom` would give an error that never comes.
 fn raised(price: i64) -> u32
     requires { nat_abs price ≤ most_price }
     ensures { (pos result ≡ price +ℤ pos most_price) × (result ≤ 2000000) }
@@ -102,7 +102,7 @@ fn over_periods(part: &[u8], at: usize, framed: Framed<'_>, zone: usize) -> Walk
     Walked { all, worth, bits }
 }
 
-// By `as` here and below, which is proved to fit: `TryFrom` would give an error that never comes.
+// By `as` here and below, as above.
 fn surplus_of(side: Side, limit: i64, all: u64, worth: u64) -> i64
     requires { (nat_abs limit ≤ most_price) × ((all ≤ 1000000000000) × (worth ≤ 1000000000000000000)) }
     ensures { result ≡ surplus_by side limit all worth }
@@ -176,7 +176,7 @@ fn part_of(surplus: i64, ratio: u32) -> i64
     requires { (pos 0 ≼ surplus) × ((nat_abs surplus ≤ 50000000000000) × (ratio ≤ most_ratio)) }
     ensures { result ≡ part_of surplus ratio }
 {
-    (surplus as u64 * ratio as u64 / 1000) as i64
+    (surplus as u64 * u64::from(ratio) / 1000) as i64
 }
 
 fn share(side: Side, accepted: i64, volumes: u64, sums: &mut Sums)
@@ -231,7 +231,7 @@ fn accept(
         return false;
     }
     let volumes = add_volumes(part, at, counts, zone, side, ratio, nets);
-    if volumes * 1000 != all * ratio as u64 {
+    if volumes * 1000 != all * u64::from(ratio) {
         return false;
     }
     let accepted = part_of(surplus, ratio);

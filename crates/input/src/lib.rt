@@ -44,7 +44,7 @@ pub fn read_full<R: Read>(file: &mut R, buf: &mut [u8]) -> usize
     fill(file, buf).0
 }
 
-// ---- the front of a buffer: n bytes, or all where there are fewer
+// ---- the front of a buffer: n bytes, or all where there are fewer; one for each kind of borrow, which have no form in common
 
 pub fn front(buf: &[u8], n: usize) -> &[u8]
     ensures { result.now ≡ take n buf.now }

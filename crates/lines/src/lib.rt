@@ -185,10 +185,5 @@ pub fn balanced(nets: &[i64], flows: &[i64], n: usize) -> bool
     requires { (n ≤ length nets.now) × (n ≤ length flows.now) }
     ensures { result ≡ true → (k : ℕ) → k < n → get_or nets.now k (pos 0) ≡ get_or flows.now k (pos 0) }
 {
-    for k in 0..n {
-        if nets[k] != flows[k] {
-            return false;
-        }
-    }
-    true
+    nets[..n] == flows[..n]
 }

@@ -146,8 +146,7 @@ pub fn step_ok(side: Side, limit: i64, quantity: u32, price: i64, volume: u32) -
 pub fn line_ok(forward: i64, least: i64, from: i64, to: i64, flow: i64) -> bool
     ensures { result ≡ line_ok forward least from to flow }
 {
-    ((to <= from) | ((flow <= forward) & (forward <= flow)))
-        & ((from <= to) | ((flow <= least) & (least <= flow)))
+    ((to <= from) | equal(flow, forward)) & ((from <= to) | equal(flow, least))
 }
 
 pub fn ratio_ok(least: u32, ratio: u32) -> bool

@@ -76,11 +76,6 @@ fn say_changed<W: Write>(
     }
 }
 
-// The first n bytes, or all where there are fewer.
-fn first<'a>(s: &'a [u8], n: usize) -> &'a [u8] {
-    &s[..n.min(s.len())]
-}
-
 fn say_cuts<'a, W: Write>(
     out: &mut W,
     file: File,
@@ -90,7 +85,7 @@ fn say_cuts<'a, W: Write>(
     let whole = chosen(file, day, clearing);
     for n in 0..whole.len() {
         write!(out, "{file} cut to {n}")?;
-        say_changed(out, file, first(whole, n), day, clearing)?;
+        say_changed(out, file, input::front(whole, n), day, clearing)?;
     }
     Ok(())
 }
@@ -119,7 +114,7 @@ fn say_edit<'a, W: Write>(
     write!(out, "{file} byte {at} is {value}")?;
     let whole = chosen(file, day, clearing);
     let room = altered(whole, usize::from(at), value);
-    say_changed(out, file, first(&room, whole.len()), day, clearing)
+    say_changed(out, file, input::front(&room, whole.len()), day, clearing)
 }
 
 // Each edit is three bytes: the file's number, the place, and the byte to put there.
@@ -211,8 +206,8 @@ fn main(rt: HostRuntime) -> io::Result<()> {
     let e = loaded(&rt, "edits", &mut edits);
     say_all(
         &mut io::writer(&rt),
-        first(&day, d + 1),
-        first(&clearing, c + 1),
-        first(&edits, e),
+        input::front(&day, d + 1),
+        input::front(&clearing, c + 1),
+        input::front(&edits, e),
     )
 }

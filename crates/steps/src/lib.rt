@@ -190,7 +190,7 @@ fn count_bought(
     true
 }
 
-// By the slot of its head: the sells stand first.
+// By the slot of its head: the sells stand first. No kind is made of it, since it is asked here alone.
 fn count_at(
     slot: usize,
     limit: i64,

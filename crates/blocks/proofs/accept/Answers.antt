@@ -23,7 +23,7 @@ pub overflow_mul-all : goal.overflow_mul-all
 overflow_mul-all c =
     let all : c.args.all ≤ 25000000 = rw (← c.requires.all_value.0) at (sum_within c.args.counts.periods most_periods (λ h. pos (block_quantity c.args.part.now c.args.at h)) most_volume c.requires.ready.periods_most c.requires.ready.quantities) in
     let h : c.args.all * c.args.ratio ≤ 25000000 * 1000 = mul-le-mul {n₂ = 25000000} {m₂ = 1000} all c.requires.ready.ratio_is in
-    record { fits = omega arith }
+    record { fits = rw c.from.ensures (omega arith) }
 
 -- the surplus of what is accepted
 accepted : (c : After-part_of-accepted) → to_z w64 (of_z w64 c.part_of-accepted.result) ≡ part_of c.args.surplus c.args.ratio
@@ -62,7 +62,7 @@ pub returns : goal.returns
 returns c _ = record {
   gains = given (rw (to_z-of_z w64 c.args.surplus c.ranges.surplus) at c.if-surplus-lt0.false) (simp linear (omega arith));
   whole = all_whole c.args.counts.periods c.args.ratio c.args.all c.add_volumes-volumes.result (block_quantity c.args.part.now c.args.at)
-      c.requires.all_value.0 c.add_volumes-volumes.ensures.volumes_are c.if-volumes-all.false;
+      c.requires.all_value.0 c.add_volumes-volumes.ensures.volumes_are (rw c.from.ensures at c.if-volumes-all.false);
   nets = c.add_volumes-volumes.ensures.nets;
   sums = rw (← c.add_volumes-volumes.ensures.volumes_are, ← left (goal.at.returns c).After-less)
       (simp (+ℤ_idr, +ℤ_idl) at (gained_then (given_out (goal.at.returns c).After-share) c.miss.ensures));
