@@ -1,9 +1,8 @@
-// Numbers and bytes on a writer, for the programs.
+// Bytes on a writer, for the programs: as they are, and in hexadecimal.
 #![tactic(auto)]
 
-ghost use Rattle.std.specs.Prelude.{◌≡◌, ◌∷◌, IfOk, OnOk, nat_abs, length};
+ghost use Rattle.std.specs.Prelude.{◌≡◌, IfOk, OnOk, length};
 ghost use Rattle.std.specs.Io.KnownBytes.{Appends};
-ghost use Rattle.std.specs.Fmt.{decimal, signed_decimal};
 ghost use Rattle.print.specs.Hex.{hex, two_digits};
 
 use std::io;
@@ -16,33 +15,6 @@ pub fn text<W: Write>(out: &mut W, s: &[u8]) -> io::Result<usize>
 {
     out.write_all(s)?;
     Ok(s.len())
-}
-
-// Prints a number in plain decimal, and gives it back.
-pub fn number<W: Write>(out: &mut W, n: usize) -> io::Result<usize>
-    ensures value { IfOk result (λ m. m ≡ n) }
-    ensures bytes { OnOk result (Appends (W.contents out.old) (W.contents out.new) (decimal n)) }
-{
-    write!(out, "{n}")?;
-    Ok(n)
-}
-
-// The same, behind a space.
-pub fn spaced<W: Write>(out: &mut W, n: usize) -> io::Result<usize>
-    ensures value { IfOk result (λ m. m ≡ n) }
-    ensures bytes { OnOk result (Appends (W.contents out.old) (W.contents out.new) (32 ∷ decimal n)) }
-{
-    write!(out, " {n}")?;
-    Ok(n)
-}
-
-// Prints a whole number in plain decimal, with a minus sign where it is below zero. Gives what it printed behind the sign.
-pub fn signed<W: Write>(out: &mut W, v: i64) -> io::Result<u64>
-    ensures value { IfOk result (λ n. n ≡ nat_abs v) }
-    ensures bytes { OnOk result (Appends (W.contents out.old) (W.contents out.new) (signed_decimal v)) }
-{
-    write!(out, "{v}")?;
-    Ok(v.unsigned_abs())
 }
 
 // By itself: with `write!` in the loop over the bytes a goal stayed open.
