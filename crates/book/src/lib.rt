@@ -7,7 +7,8 @@ ghost use Rattle.rows.specs.Rows.{row_start};
 ghost use Rattle.rows.specs.declared.Kind.TheVariants.{Lines};
 ghost use Rattle.day.specs.Day.{lines_part, steps_part, blocks_part};
 ghost use Rattle.clearing.specs.Clearing.{flows_part, volumes_part, ratios_part};
-ghost use Rattle.book.specs.Of.{OfFiles};
+ghost use Rattle.parts.specs.Of.{OfDay};
+ghost use Rattle.book.specs.Of.{OfClearing, OfFiles};
 ghost use Rattle.book.specs.Framed.{Framed};
 ghost use Rattle.book.specs.Book.{side_of, least_of, step_at, block_at, line_at, floor_of, ceiling_of, line_of, forward_of, back_of, step_of, block_of, quantity_of};
 ghost use Rattle.book.specs.Book.{prices_of, flow_of, volume_of, ratio_of};
@@ -106,7 +107,154 @@ pub fn line_at(part: &[u8], at: usize) -> Line
     }
 }
 
-// ---- two files row by row
+// ---- the rows of a day file: that file's frame alone has to be without fault
+
+pub fn floor_of(day: &[u8], counts: Counts, period: usize) -> i64
+    requires { (OfDay day.now counts) × (period < counts.periods) }
+    ensures { result ≡ floor_of day.now period }
+{
+    wire::i32_at(day, 2 + 8 * period)
+}
+
+pub fn ceiling_of(day: &[u8], counts: Counts, period: usize) -> i64
+    requires { (OfDay day.now counts) × (period < counts.periods) }
+    ensures { result ≡ ceiling_of day.now period }
+{
+    wire::i32_at(day, 2 + 8 * period + 4)
+}
+
+pub fn line_of(day: &[u8], counts: Counts, line: usize) -> Line
+    requires { (OfDay day.now counts) × (line < counts.lines) }
+    ensures { result ≡ line_of counts day.now line }
+{
+    let of_lines = Form {
+        kind: Kind::Lines,
+        periods: counts.periods,
+    };
+    line_at(parts::lines_part(day, counts), row_start(of_lines, line))
+}
+
+// A capacity of a line: the forward capacities start 2 bytes into its row, the back capacities 6.
+pub fn capacity_of(day: &[u8], counts: Counts, line: usize, first: usize, period: usize) -> u32
+    requires { (OfDay day.now counts) × ((line < counts.lines) × ((period < counts.periods) × (first ≤ 6))) }
+    ensures { result ≡ u32_at (lines_part day.now) (row_start Lines counts.periods line + first + 8 * period) }
+{
+    let of_lines = Form {
+        kind: Kind::Lines,
+        periods: counts.periods,
+    };
+    wire::u32_at(
+        parts::lines_part(day, counts),
+        row_start(of_lines, line) + first + 8 * period,
+    )
+}
+
+pub fn forward_of(day: &[u8], counts: Counts, line: usize, period: usize) -> i64
+    requires { (OfDay day.now counts) × ((line < counts.lines) × (period < counts.periods)) }
+    ensures { result ≡ forward_of counts day.now line period }
+{
+    market::wide(capacity_of(day, counts, line, 2, period))
+}
+
+// Minus the back capacity: the least flow.
+pub fn least_flow_of(day: &[u8], counts: Counts, line: usize, period: usize) -> i64
+    requires { (OfDay day.now counts) × ((line < counts.lines) × (period < counts.periods)) }
+    ensures { result ≡ neg_ℤ (back_of counts day.now line period) }
+{
+    minus(capacity_of(day, counts, line, 6, period))
+}
+
+pub fn step_of(day: &[u8], counts: Counts, row: usize) -> Step
+    requires { (OfDay day.now counts) × (row < counts.steps) }
+    ensures { result ≡ step_of day.now row }
+{
+    step_at(parts::steps_part(day, counts), 2 + 12 * row)
+}
+
+pub fn block_of(day: &[u8], counts: Counts, row: usize) -> Block
+    requires { (OfDay day.now counts) × (row < counts.blocks) }
+    ensures { result ≡ block_of counts day.now row }
+{
+    let of_blocks = Form {
+        kind: Kind::Blocks,
+        periods: counts.periods,
+    };
+    block_at(parts::blocks_part(day, counts), row_start(of_blocks, row))
+}
+
+pub fn quantity_of(day: &[u8], counts: Counts, row: usize, period: usize) -> u32
+    requires { (OfDay day.now counts) × ((row < counts.blocks) × (period < counts.periods)) }
+    ensures { result ≡ quantity_of counts day.now row period }
+{
+    let of_blocks = Form {
+        kind: Kind::Blocks,
+        periods: counts.periods,
+    };
+    wire::u32_at(
+        parts::blocks_part(day, counts),
+        row_start(of_blocks, row) + 8 + 4 * period,
+    )
+}
+
+// ---- the rows of a clearing file: that file's frame alone has to be without fault
+
+fn flows_part<'a>(clearing: &'a [u8], counts: Counts) -> &'a [u8]
+    requires { OfClearing clearing.now counts }
+    ensures { result.now ≡ flows_part clearing.now }
+{
+    reader::rest(Form::PRICES, clearing, counts.zones * counts.periods)
+}
+
+fn volumes_part<'a>(clearing: &'a [u8], counts: Counts) -> &'a [u8]
+    requires { OfClearing clearing.now counts }
+    ensures { result.now ≡ volumes_part clearing.now }
+{
+    reader::rest(
+        Form::FLOWS,
+        flows_part(clearing, counts),
+        counts.lines * counts.periods,
+    )
+}
+
+fn ratios_part<'a>(clearing: &'a [u8], counts: Counts) -> &'a [u8]
+    requires { OfClearing clearing.now counts }
+    ensures { result.now ≡ ratios_part clearing.now }
+{
+    reader::rest(Form::VOLUMES, volumes_part(clearing, counts), counts.steps)
+}
+
+pub fn price_of(clearing: &[u8], counts: Counts, zone: usize, period: usize) -> i64
+    requires { (OfClearing clearing.now counts) × ((zone < counts.zones) × (period < counts.periods)) }
+    ensures { result ≡ prices_of counts clearing.now zone period }
+{
+    wire::i32_at(clearing, 2 + 4 * (zone * counts.periods + period))
+}
+
+pub fn flow_of(clearing: &[u8], counts: Counts, line: usize, period: usize) -> i64
+    requires { (OfClearing clearing.now counts) × ((line < counts.lines) × (period < counts.periods)) }
+    ensures { result ≡ flow_of counts clearing.now line period }
+{
+    wire::i32_at(
+        flows_part(clearing, counts),
+        2 + 4 * (line * counts.periods + period),
+    )
+}
+
+pub fn volume_of(clearing: &[u8], counts: Counts, row: usize) -> u32
+    requires { (OfClearing clearing.now counts) × (row < counts.steps) }
+    ensures { result ≡ volume_of clearing.now row }
+{
+    wire::u32_at(volumes_part(clearing, counts), 2 + 4 * row)
+}
+
+pub fn ratio_of(clearing: &[u8], counts: Counts, row: usize) -> u32
+    requires { (OfClearing clearing.now counts) × (row < counts.blocks) }
+    ensures { result ≡ ratio_of clearing.now row }
+{
+    narrow(wire::u16_at(ratios_part(clearing, counts), 2 + 2 * row))
+}
+
+// ---- two files row by row: the same, with nothing to ask but the row
 
 impl<'a> Framed<'a> {
     // ---- the sections that hold the rows, each from its count on, as parts of the caller's files
@@ -129,119 +277,69 @@ impl<'a> Framed<'a> {
         parts::blocks_part(self.day, self.counts)
     }
 
-    fn flows_part(self) -> &'a [u8]
-        ensures { result.now ≡ flows_part self.entry.clearing.now }
-    {
-        reader::rest(
-            Form::PRICES,
-            self.clearing,
-            self.counts.zones * self.counts.periods,
-        )
-    }
-
-    fn volumes_part(self) -> &'a [u8]
-        ensures { result.now ≡ volumes_part self.entry.clearing.now }
-    {
-        reader::rest(
-            Form::FLOWS,
-            self.flows_part(),
-            self.counts.lines * self.counts.periods,
-        )
-    }
-
-    fn ratios_part(self) -> &'a [u8]
-        ensures { result.now ≡ ratios_part self.entry.clearing.now }
-    {
-        reader::rest(Form::VOLUMES, self.volumes_part(), self.counts.steps)
-    }
-
     // ---- the day file
 
     pub fn floor(self, period: usize) -> i64
         requires { period < self.counts.periods }
         ensures { result ≡ floor_of self.entry.day.now period }
     {
-        wire::i32_at(self.day, 2 + 8 * period)
+        floor_of(self.day, self.counts, period)
     }
 
     pub fn ceiling(self, period: usize) -> i64
         requires { period < self.counts.periods }
         ensures { result ≡ ceiling_of self.entry.day.now period }
     {
-        wire::i32_at(self.day, 2 + 8 * period + 4)
+        ceiling_of(self.day, self.counts, period)
     }
 
     pub fn line(self, line: usize) -> Line
         requires { line < self.counts.lines }
         ensures { result ≡ line_of self.entry.counts self.entry.day.now line }
     {
-        let of_lines = Form {
-            kind: Kind::Lines,
-            periods: self.counts.periods,
-        };
-        line_at(self.lines_part(), row_start(of_lines, line))
+        line_of(self.day, self.counts, line)
     }
 
-    // A capacity of a line: the forward capacities start 2 bytes into its row, the back capacities 6.
     pub fn capacity(self, line: usize, first: usize, period: usize) -> u32
         requires { (line < self.counts.lines) × ((period < self.counts.periods) × (first ≤ 6)) }
         ensures { result ≡ u32_at (lines_part self.entry.day.now) (row_start Lines self.entry.counts.periods line + first + 8 * period) }
     {
-        let of_lines = Form {
-            kind: Kind::Lines,
-            periods: self.counts.periods,
-        };
-        wire::u32_at(
-            self.lines_part(),
-            row_start(of_lines, line) + first + 8 * period,
-        )
+        capacity_of(self.day, self.counts, line, first, period)
     }
 
     pub fn forward(self, line: usize, period: usize) -> i64
         requires { (line < self.counts.lines) × (period < self.counts.periods) }
         ensures { result ≡ forward_of self.entry.counts self.entry.day.now line period }
     {
-        market::wide(self.capacity(line, 2, period))
+        forward_of(self.day, self.counts, line, period)
     }
 
-    // Minus the back capacity.
     pub fn least_flow(self, line: usize, period: usize) -> i64
         requires { (line < self.counts.lines) × (period < self.counts.periods) }
         ensures { result ≡ neg_ℤ (back_of self.entry.counts self.entry.day.now line period) }
     {
-        minus(self.capacity(line, 6, period))
+        least_flow_of(self.day, self.counts, line, period)
     }
 
     pub fn step(self, row: usize) -> Step
         requires { row < self.counts.steps }
         ensures { result ≡ step_of self.entry.day.now row }
     {
-        step_at(self.steps_part(), 2 + 12 * row)
+        step_of(self.day, self.counts, row)
     }
 
     pub fn block(self, row: usize) -> Block
         requires { row < self.counts.blocks }
         ensures { result ≡ block_of self.entry.counts self.entry.day.now row }
     {
-        let of_blocks = Form {
-            kind: Kind::Blocks,
-            periods: self.counts.periods,
-        };
-        block_at(self.blocks_part(), row_start(of_blocks, row))
+        block_of(self.day, self.counts, row)
     }
 
     pub fn quantity(self, row: usize, period: usize) -> u32
         requires { (row < self.counts.blocks) × (period < self.counts.periods) }
         ensures { result ≡ quantity_of self.entry.counts self.entry.day.now row period }
     {
-        let of_blocks = Form {
-            kind: Kind::Blocks,
-            periods: self.counts.periods,
-        };
-        wire::u32_at(
-            self.blocks_part(),
-            row_start(of_blocks, row) + 8 + 4 * period,
-        )
+        quantity_of(self.day, self.counts, row, period)
     }
 
     // ---- the clearing file
@@ -250,30 +348,27 @@ impl<'a> Framed<'a> {
         requires { (zone < self.counts.zones) × (period < self.counts.periods) }
         ensures { result ≡ prices_of self.entry.counts self.entry.clearing.now zone period }
     {
-        wire::i32_at(self.clearing, 2 + 4 * (zone * self.counts.periods + period))
+        price_of(self.clearing, self.counts, zone, period)
     }
 
     pub fn flow(self, line: usize, period: usize) -> i64
         requires { (line < self.counts.lines) × (period < self.counts.periods) }
         ensures { result ≡ flow_of self.entry.counts self.entry.clearing.now line period }
     {
-        wire::i32_at(
-            self.flows_part(),
-            2 + 4 * (line * self.counts.periods + period),
-        )
+        flow_of(self.clearing, self.counts, line, period)
     }
 
     pub fn volume(self, row: usize) -> u32
         requires { row < self.counts.steps }
         ensures { result ≡ volume_of self.entry.clearing.now row }
     {
-        wire::u32_at(self.volumes_part(), 2 + 4 * row)
+        volume_of(self.clearing, self.counts, row)
     }
 
     pub fn ratio(self, row: usize) -> u32
         requires { row < self.counts.blocks }
         ensures { result ≡ ratio_of self.entry.clearing.now row }
     {
-        narrow(wire::u16_at(self.ratios_part(), 2 + 2 * row))
+        ratio_of(self.clearing, self.counts, row)
     }
 }

@@ -1,7 +1,7 @@
--- `book::Framed::volume` meets its contract. Assumes nothing.
+-- `book::volume_of` meets its contract. Assumes nothing.
 use Rattle.std.proofs.Common.{◌∙◌}
 use Rattle.book.specs.Book.{volume_of}
-use Rattle.book.proofs.Framed.volume.Goals as goal
+use Rattle.book.proofs.volume_of.Goals as goal
 
 pub returns : goal.returns
 unfolding volume_of

@@ -1,7 +1,7 @@
--- `book::Framed::ratio` meets its contract. Assumes nothing.
+-- `book::ratio_of` meets its contract. Assumes nothing.
 use Rattle.std.proofs.Common.{◌∙◌}
 use Rattle.book.specs.Book.{ratio_of}
-use Rattle.book.proofs.Framed.ratio.Goals as goal
+use Rattle.book.proofs.ratio_of.Goals as goal
 
 pub returns : goal.returns
 unfolding ratio_of

@@ -1,8 +1,8 @@
--- `book::Framed::ceiling` meets its contract. Assumes nothing.
+-- `book::ceiling_of` meets its contract. Assumes nothing.
 use Rattle.std.proofs.Common.{◌∙◌, w64}
 use Rattle.std.proofs.lemmas.Int.{to_z-of_z}
 use Rattle.book.specs.Book.{ceiling_of}
-use Rattle.book.proofs.Framed.ceiling.Goals as goal
+use Rattle.book.proofs.ceiling_of.Goals as goal
 
 pub returns : goal.returns
 unfolding ceiling_of

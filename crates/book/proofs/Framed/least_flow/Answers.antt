@@ -1,9 +1,0 @@
--- `book::Framed::least_flow` meets its contract. Assumes nothing.
-use Rattle.std.proofs.Common.{◌∙◌}
-use Rattle.whole.proofs.Size.{same}
-use Rattle.book.specs.Book.{back_of}
-use Rattle.book.proofs.Framed.least_flow.Goals as goal
-
-pub returns : goal.returns
-unfolding back_of
-returns c = same c.minus.result c.minus.type_inv ∙ c.minus.ensures ∙ rw c.capacity.ensures
