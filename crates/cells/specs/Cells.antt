@@ -1,7 +1,7 @@
 -- A table that has a number for each zone and period, all periods of zone 0 first, in 200 cells; and what adding a number at one place
 -- makes of it. Assumes nothing.
 use Rattle.std.specs.Prelude.{ℕ, ◌+◌, ◌*◌, ◌/◌, ◌%◌, ◌≤◌, ◌<◌, ◌≡◌, refl, Bool, true, false, cond, List, eqb, ℤ, pos, neg_ℤ, nat_abs, ◌+ℤ◌, length, get_or, set, replicate}
-use Rattle.std.proofs.Common.{mul-le-mul, div-lt_iff_lt-mul, mod-lt, arith, sym, ap, ◌∙◌, length-set, get_or-set_same, get_or-set_other}
+use Rattle.std.proofs.Common.{zero-add, mul-le-mul, div-lt_iff_lt-mul, mod-lt, arith, sym, ap, ◌∙◌, length-set, get_or-set_same, get_or-set_other}
 use Rattle.std.proofs.Math.Nat.{mod-add-div}
 use Rattle.std.proofs.Math.Decide.{ℕ_discrete}
 use Rattle.std.proofs.Math.Arith.{digits_div, digits_mod}
@@ -105,6 +105,12 @@ module _ {zones periods : ℕ} where
 
     pub tabled_gained : {t : ℕ → ℕ → ℤ} → Tabled zones periods t a → Tabled zones periods (λ z h. t z h +ℤ f z h) b
     tabled_gained t = record { long = s.long ∙ t.long; each = λ z h l k. rw (s.each z h l k, t.each z h l k) }
+
+-- x at one place of a row of sums
+pub gained_in_row : (sums : List ℤ) (s : ℕ) → s < 5 → length sums ≡ 5 → (x : ℤ) → Gained 1 5 (λ _ k. at s x k) sums (added sums s x)
+gained_in_row sums s l long x =
+    let g : Gained 1 5 (λ z k. at 0 (at s x k) z) sums (added sums (0 + s) x) = gained_at 0 s (rw (zero-add, long) l) l x in
+    gained_same (rw zero-add at g) (λ z k b _. let none : z ≡ 0 = omega (arith, b) in rw (none, at_same))
 
 -- ---- all cells
 

@@ -1,13 +1,14 @@
 -- The rules' stages over two files, and the laws by which the rules follow each other. Assumes nothing.
 use Rattle.std.specs.Prelude.{ℕ, ◌<◌, ◌≡◌, Bool, List, [], ◌∷◌, ℤ}
 use Rattle.cells.specs.Cells.{Tabled}
-use Rattle.stages.specs.Stage.{Stage, spot, first_fault}
+use Rattle.std.proofs.Common.{sym, ap, ◌∙◌}
+use Rattle.stages.specs.Stage.{Stage, spot, clean, fault_at, first_fault}
 use Rattle.market.specs.Rules as market
 use Rattle.market.specs.declared.Rule.{Rule}
 use Rattle.day.specs.declared.Counts.{Counts}
 use Rattle.book.specs.Book.{day_of, prices_of, choice_of}
 use Rattle.totals.specs.Sums.{net_position, net_flow}
-use Rattle.std.specs.Prelude.{Some, Err}
+use Rattle.std.specs.Prelude.{Option, Some, Err}
 
 abbrev pub rows_of : Counts → Rule → ℕ
 rows_of c = market.rule_rows c.zones c.lines c.steps c.blocks
@@ -35,6 +36,10 @@ pub record Gathered (c : Counts) (day clearing : List ℕ) (nets flows : List �
 pub below : {i m n : ℕ} → m ≡ n → i < m → i < n
 below e l = rw (← e) l
 
--- what is found of a stage is its fault: a place, with the stage's number, or nothing
+-- what is found of a stage, a place or nothing, is its fault
+pub found : (s : Stage) {p q : Option (ℕ × ℕ)} → p ≡ spot s → p ≡ q → fault_at s q clean ≡ first_fault (s ∷ [])
+found s e f = ap (λ (x : Option (ℕ × ℕ)). fault_at s x clean) (sym f ∙ e)
+
+-- a place that is found is its fault, with the stage's number
 pub broken_at : (s : Stage) {z i k : ℕ} → Some (z, i) ≡ spot s → k ≡ s.number → Err (k, s.named z i) ≡ first_fault (s ∷ [])
 broken_at s e n = rw (← e, n)
