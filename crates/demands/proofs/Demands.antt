@@ -65,7 +65,7 @@ module _ {day clearing before : List ℕ} {outcome : Outcome} {after : List ℕ}
   pub accepted_exactly : (t : Totals) → (outcome ≡ Ok t) ↔ (Passes day clearing (length before) × (totals_of day clearing ≡ t))
   accepted_exactly t = said_of c.said (passes_exactly day clearing (length before) t)
 
-  -- `Means .. (Broken k p)`: some stage has the number k and fails first at the place p, and all stages before it hold everywhere
+  -- `Means .. (Err (k, p))`: some stage has the number k and fails first at the place p, and all stages before it hold everywhere
   pub refused_exactly : (k : ℕ) (p : Place) → (outcome ≡ Err (k, p)) ↔ Means (stages day clearing (length before)) (Err (k, p))
   refused_exactly k p = said_of c.said (refused_is_broken day clearing (length before) k p)
 

@@ -2,16 +2,20 @@
 // number and the place that each gets.
 #![tactic(auto)]
 
-ghost use Rattle.std.specs.Prelude.{◌≡◌, length};
+ghost use Rattle.std.specs.Prelude.{◌≡◌, OnOk, length};
+ghost use Rattle.std.specs.Io.KnownBytes.{Appends};
 ghost use Rattle.input.specs.Within.{IsPrefixLen};
+ghost use Rattle.readings.specs.Text.{fault_text, cut_text, altered_text, asked_text, size_text};
 
-use stages::{Place, Refusal};
+use stages::Refusal;
 use std::io::Write;
 use std::{fmt, fs, io};
 
-fn say_fault<W: Write>(out: &mut W, fault: Result<(), Refusal>) -> io::Result<()> {
+fn say_fault<W: Write>(out: &mut W, fault: Result<(), Refusal>) -> io::Result<()>
+    ensures { OnOk result (Appends (W.contents out.old) (W.contents out.new) (fault_text fault)) }
+{
     match fault {
-        Ok(()) => write!(out, " 0 {}", Place::new(0, 0)),
+        Ok(()) => write!(out, " 0 0 0 0"),
         Err(refusal) => write!(out, " {refusal}"),
     }
 }
@@ -23,8 +27,14 @@ fn say_reading<W: Write>(out: &mut W, day: &[u8], clearing: &[u8]) -> io::Result
     writeln!(out)
 }
 
+fn say_name<W: Write>(out: &mut W, name: &str) -> io::Result<()>
+    ensures { OnOk result (Appends (W.contents out.old) (W.contents out.new) name.now) }
+{
+    write!(out, "{name}")
+}
+
 fn say_named<W: Write>(out: &mut W, name: &str, day: &[u8], clearing: &[u8]) -> io::Result<()> {
-    write!(out, "{name}")?;
+    say_name(out, name)?;
     say_reading(out, day, clearing)
 }
 
@@ -48,6 +58,11 @@ impl From<u8> for File {
 }
 
 impl fmt::Display for File {
+    ghost use Rattle.std.specs.Prelude.{Some};
+    ghost use Rattle.readings.specs.Text.{file_text};
+
+    ghost output = { λ file. Some (file_text file) };
+
     fn fmt<W: fmt::Write>(&self, f: &mut fmt::Formatter<W>) -> fmt::Result {
         match self {
             File::Day => write!(f, "day"),
@@ -76,6 +91,12 @@ fn say_changed<W: Write>(
     }
 }
 
+fn say_cut<W: Write>(out: &mut W, file: File, n: usize) -> io::Result<()>
+    ensures { OnOk result (Appends (W.contents out.old) (W.contents out.new) (cut_text file n)) }
+{
+    write!(out, "{file} cut to {n}")
+}
+
 fn say_cuts<'a, W: Write>(
     out: &mut W,
     file: File,
@@ -84,7 +105,7 @@ fn say_cuts<'a, W: Write>(
 ) -> io::Result<()> {
     let whole = chosen(file, day, clearing);
     for n in 0..whole.len() {
-        write!(out, "{file} cut to {n}")?;
+        say_cut(out, file, n)?;
         say_changed(out, file, input::front(whole, n), day, clearing)?;
     }
     Ok(())
@@ -103,6 +124,12 @@ fn altered(s: &[u8], at: usize, value: u8) -> [u8; 128]
     room
 }
 
+fn say_altered<W: Write>(out: &mut W, file: File, at: u8, value: u8) -> io::Result<()>
+    ensures { OnOk result (Appends (W.contents out.old) (W.contents out.new) (altered_text file at value)) }
+{
+    write!(out, "{file} byte {at} is {value}")
+}
+
 fn say_edit<'a, W: Write>(
     out: &mut W,
     file: File,
@@ -111,7 +138,7 @@ fn say_edit<'a, W: Write>(
     day: &'a [u8],
     clearing: &'a [u8],
 ) -> io::Result<()> {
-    write!(out, "{file} byte {at} is {value}")?;
+    say_altered(out, file, at, value)?;
     let whole = chosen(file, day, clearing);
     let room = altered(whole, usize::from(at), value);
     say_changed(out, file, input::front(&room, whole.len()), day, clearing)
@@ -132,8 +159,14 @@ fn say_edits<'a, W: Write>(
 
 // ---- the look-up
 
+fn say_size<W: Write>(out: &mut W, n: usize) -> io::Result<()>
+    ensures { OnOk result (Appends (W.contents out.old) (W.contents out.new) (size_text n)) }
+{
+    write!(out, " part of {n}")
+}
+
 fn say_part<W: Write>(out: &mut W, part: &[u8]) -> io::Result<()> {
-    write!(out, " part of {}", part.len())?;
+    say_size(out, part.len())?;
     if !part.is_empty() {
         write!(out, " ")?;
     }
@@ -141,8 +174,14 @@ fn say_part<W: Write>(out: &mut W, part: &[u8]) -> io::Result<()> {
     writeln!(out)
 }
 
+fn say_asked<W: Write>(out: &mut W, name: &str, section: usize) -> io::Result<()>
+    ensures { OnOk result (Appends (W.contents out.old) (W.contents out.new) (asked_text name.now section)) }
+{
+    write!(out, "{name} section {section} refused")
+}
+
 fn say_look_up<W: Write>(out: &mut W, name: &str, day: &[u8], section: usize) -> io::Result<()> {
-    write!(out, "{name} section {section} refused")?;
+    say_asked(out, name, section)?;
     say_fault(out, lookup::look_up_fault(day, section))?;
     say_part(out, lookup::look_up(day, section))
 }

@@ -1,18 +1,29 @@
 // An outcome on a writer: the verdict's number and place; where it is accepted the six totals and the net positions too.
 #![tactic(auto)]
 
-ghost use Rattle.std.specs.Prelude.{◌≡◌, ◌<◌, IfOk};
+ghost use Rattle.std.specs.Prelude.{◌≡◌, ◌<◌, IfOk, OnOk};
+ghost use Rattle.std.specs.Io.KnownBytes.{Appends};
 ghost use Rattle.verdict.specs.Verdict.{number_of};
 ghost use Rattle.verdict.specs.Verdict as meaning;
+ghost use Rattle.report.specs.Text.{verdict_line, totals_text, net_line};
+ghost use Rattle.report.specs.Numbered.{Numbered};
 
 use market::Totals;
-use stages::{Place, Refusal};
+use stages::Place;
 use std::io;
 use std::io::Write;
 
-// ---- the totals
+// ---- the verdict and the totals
 
-fn say_totals<W: Write>(out: &mut W, t: Totals) -> io::Result<()> {
+fn say_verdict<W: Write>(out: &mut W, number: u8, place: Place) -> io::Result<()>
+    ensures { OnOk result (Appends (W.contents out.old) (W.contents out.new) (verdict_line number place)) }
+{
+    writeln!(out, "verdict {number} {place}")
+}
+
+fn say_totals<W: Write>(out: &mut W, t: Totals) -> io::Result<()>
+    ensures { OnOk result (Appends (W.contents out.old) (W.contents out.new) (totals_text t)) }
+{
     writeln!(out, "order value {}", t.value)?;
     writeln!(out, "buyers {}", t.buyers)?;
     writeln!(out, "sellers {}", t.sellers)?;
@@ -48,12 +59,18 @@ fn i32_or_zero(s: &[u8], at: usize) -> i64 {
     }
 }
 
+fn say_net<W: Write>(out: &mut W, code: usize, period: usize, net: i64) -> io::Result<()>
+    ensures { OnOk result (Appends (W.contents out.old) (W.contents out.new) (net_line code period net)) }
+{
+    writeln!(out, "net {code} {period} {net}")
+}
+
 fn say_nets<W: Write>(out: &mut W, codes: &[u8], room: &[u8], periods: usize) -> io::Result<()> {
     if 0 < periods {
         for k in 0..u16_or_zero(room, 50) {
             let code = u16_or_zero(codes, 2 * (k / periods));
             let net = i32_or_zero(room, 52 + 4 * k);
-            writeln!(out, "net {code} {} {net}", k % periods)?;
+            say_net(out, code, k % periods, net)?;
         }
     }
     Ok(())
@@ -61,22 +78,23 @@ fn say_nets<W: Write>(out: &mut W, codes: &[u8], room: &[u8], periods: usize) ->
 
 // ---- the outcome of a check of a day file, and the room that was lent to it
 
-// Gives the number that it printed.
-pub fn outcome<W: Write>(
+// Gives the number that it printed. A refusal may be of any type that says a number and a place, and the number any u8.
+pub fn outcome<W: Write, E: Into<(u8, Place)>>(
     out: &mut W,
-    outcome: Result<Totals, Refusal>,
+    outcome: Result<Totals, E>,
     day: &[u8],
     room: &[u8],
 ) -> io::Result<u8>
-    ensures { IfOk result (λ n. n ≡ number_of outcome) }
+    ensures { IfOk result (λ n. Numbered E.converts outcome n) }
 {
     match outcome {
         Err(refusal) => {
-            writeln!(out, "verdict {refusal}")?;
-            Ok(refusal.number())
+            let (number, place) = refusal.into();
+            say_verdict(out, number, place)?;
+            Ok(number)
         }
         Ok(totals) => {
-            writeln!(out, "verdict 0 {}", Place::new(0, 0))?;
+            say_verdict(out, 0, Place::new(0, 0))?;
             say_totals(out, totals)?;
             say_nets(
                 out,

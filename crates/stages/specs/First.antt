@@ -26,7 +26,7 @@ abbrev pub first_bad : ℕ → (ℕ → Bool) → Option ℕ
 first_bad zero t = None
 first_bad (suc n) t = or_else (first_bad n t) (bad_at (t n) n)
 
--- what an answer says. Nothing: the test holds at each row below n. At k: it fails at k, which is below n, and holds at each row before
+-- what an answer says. `None`: the test holds at each row below n. `Some k`: it fails at k, which is below n, and holds at each row before
 abbrev pub Says : ℕ → (ℕ → Bool) → Option ℕ → Type 0
 Says n t None = (j : ℕ) → j < n → t j ≡ true
 Says n t (Some k) = (k < n) × ((t k ≡ false) × ((j : ℕ) → j < k → t j ≡ true))

@@ -85,7 +85,7 @@ pub record BrokenAt (s : Stage) (k : ℕ) (p : Place) : Type 0 where
   pub named : s.named row col ≡ p
   pub breaks : Breaks s row col
 
--- Clean: each stage's test holds everywhere. A number k and a place p: some stage is broken so, and the tests of the stages before it hold everywhere
+-- `Ok`: each stage's test holds everywhere. `Err` of a number k and a place p: some stage is broken so, and the tests of the stages before it hold everywhere
 abbrev pub Means : List Stage → Fault → Type 0
 Means [] (Ok _) = Unit
 Means [] (Err (k, p)) = ⊥

@@ -133,6 +133,17 @@ impl Refusal {
     }
 }
 
+// The rule paper's number and the place, as a pair.
+impl From<Refusal> for (u8, Place) {
+    ghost use Rattle.std.specs.Prelude.{◌≡◌};
+
+    ghost from_gives = { λ refusal pair. pair ≡ refusal };
+
+    fn from(refusal: Refusal) -> (u8, Place) {
+        (refusal.number(), refusal.place())
+    }
+}
+
 // The rule paper's number, and behind a space the place.
 impl fmt::Display for Refusal {
     ghost use Rattle.std.specs.Prelude.{Some};

@@ -79,6 +79,7 @@ place_of (Err (number, place)) = place
 abbrev pub zeros : Totals
 zeros = record { value = pos 0; buyers = pos 0; sellers = pos 0; rent = pos 0; traded = pos 0; shortfall = pos 0 }
 
-abbrev pub given_totals : Outcome → Totals
+-- of any refusal, also one whose number the paper lacks
+abbrev pub given_totals : {E : Type 0} → Result Totals E → Totals
 given_totals (Ok t) = t
-given_totals (Err (number, place)) = zeros
+given_totals (Err e) = zeros

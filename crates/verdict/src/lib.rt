@@ -90,7 +90,7 @@ pub fn check(day: &[u8], clearing: &[u8], room: &mut [u8]) -> Result<Totals, Ref
 
 // ---- the totals asked of an outcome: zeros where it is refused
 
-pub fn given_totals(outcome: Result<Totals, Refusal>) -> Totals
+pub fn given_totals<E: Drop>(outcome: Result<Totals, E>) -> Totals
     ensures { result ≡ given_totals outcome }
 {
     outcome.unwrap_or_default()
