@@ -3,6 +3,7 @@
 
 ghost use Rattle.std.specs.Prelude.{◌≡◌};
 ghost use Rattle.stages.specs.Stage.{first_fault, fault_of};
+ghost use Rattle.sections.specs.Section.{ended};
 ghost use Rattle.reader.specs.Reader.{reading_at};
 ghost use Rattle.day.specs.Day.{day_numbers, day_stages, day_file};
 
@@ -43,6 +44,12 @@ fn read_section(
     )
 }
 
+fn read_end(part: &[u8]) -> Result<(), Refusal>
+    ensures { result ≡ first_fault (ended 4 part.now) }
+{
+    sections::read_end(part, Broken::DayGoesOn)
+}
+
 // The sections one after the other, each from its count on.
 fn read_sections(file: &[u8]) -> Result<Counts, Refusal>
     ensures { result ≡ day_file file.now }
@@ -73,7 +80,7 @@ fn read_sections(file: &[u8]) -> Result<Counts, Refusal>
     };
     let blocks = read_section(5, of_blocks, 0, limits::MOST_BLOCKS, zones, blocks_part)?;
     let end = reader::rest(of_blocks, blocks_part, blocks);
-    sections::read_end(end, Broken::DayGoesOn)?;
+    read_end(end)?;
     Ok(Counts {
         periods,
         zones,
