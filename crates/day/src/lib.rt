@@ -27,6 +27,8 @@ const DAY: Faults = Faults {
     bad: Broken::DayRow,
 };
 
+// Inlined, for the reason that `reader::read_rows` is.
+#[inline(always)]
 fn read_section(
     number: usize,
     form: Form,

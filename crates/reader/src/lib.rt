@@ -11,6 +11,7 @@ use rows::Form;
 use sections::SectionFault;
 
 // The first row of a section that breaks its rule, and in it the first field that does.
+#[inline(always)]
 fn bad_field(form: Form, zones: usize, part: &[u8], n: usize) -> Option<(usize, usize)>
     requires { 2 + row_size form.kind form.periods * n ≤ length part.now }
     ensures { result ≡ first_cell n (field_count form.kind form.periods) (field_ok form.kind form.periods zones part.now) }
@@ -23,7 +24,9 @@ fn bad_field(form: Form, zones: usize, part: &[u8], n: usize) -> Option<(usize, 
     None
 }
 
-// A section of least to most rows: the count, its limit, room for all rows, then the rows in order.
+// A section of least to most rows: the count, its limit, room for all rows, then the rows in order. Inlined, and `bad_field` with it, so that each
+// section is read by the code of its own kind: a choice of the kind for each row makes a look-up in a small day half as long again.
+#[inline(always)]
 pub fn read_rows(
     form: Form,
     least: usize,
